@@ -1,0 +1,121 @@
+// Each record out of its part.
+ghost use mathlib.Core.Path.{_≡_};
+ghost use Rattle.fields.specs.Records.{value-of, function-at, block-of, returned-of, predecessor-of, phi-of, instruction-value-of, instruction-of, span-of, place-of, mention-of};
+use crate::codes;
+use crate::read16;
+use crate::read32;
+use crate::read_run;
+use component::records::Block;
+use component::records::Function;
+use component::records::Instruction;
+use component::records::InstructionValue;
+use component::records::Mention;
+use component::records::MutableRange;
+use component::records::Phi;
+use component::records::Place;
+use component::records::Predecessor;
+use component::records::Span;
+use component::records::Value;
+
+pub fn read_value(part: &[u8]) -> Value
+    ensures { λ r. ⌜ r ≡ value-of (now (part .entry)) ⌝ }
+{
+    Value {
+        name: codes::identifier_name(read16(part, 2), read16(part, 4)),
+        kind: codes::value_type(read16(part, 6)),
+        range: MutableRange { start: read32(part, 8), end: read32(part, 12) },
+    }
+}
+
+pub fn read_function(part: &[u8]) -> Function
+    ensures { λ r. ⌜ r ≡ function-at (now (part .entry)) ⌝ }
+{
+    Function { params: read_run(part, 2), blocks: read_run(part, 6) }
+}
+
+// The value of an explicit return, where there is one.
+fn read_returned(part: &[u8]) -> Option<u16>
+    ensures { λ r. ⌜ r ≡ returned-of (now (part .entry)) ⌝ }
+{
+    if read16(part, 16) == 0 { None } else { Some(read16(part, 18)) }
+}
+
+pub fn read_block(part: &[u8]) -> Block
+    ensures { λ r. ⌜ r ≡ block-of (now (part .entry)) ⌝ }
+{
+    Block {
+        id: read16(part, 2),
+        predecessors: read_run(part, 4),
+        phis: read_run(part, 8),
+        instructions: read_run(part, 12),
+        returned: read_returned(part),
+    }
+}
+
+pub fn read_predecessor(part: &[u8]) -> Predecessor
+    ensures { λ r. ⌜ r ≡ predecessor-of (now (part .entry)) ⌝ }
+{
+    Predecessor { id: read16(part, 2) }
+}
+
+pub fn read_phi(part: &[u8]) -> Phi
+    ensures { λ r. ⌜ r ≡ phi-of (now (part .entry)) ⌝ }
+{
+    Phi { value: read16(part, 2), operands: read_run(part, 4) }
+}
+
+// The kind of an instruction, with the fields that this kind has.
+fn read_instruction_value(part: &[u8]) -> InstructionValue
+    ensures { λ r. ⌜ r ≡ instruction-value-of (now (part .entry)) ⌝ }
+{
+    match read16(part, 2) {
+        0 => InstructionValue::Other,
+        1 => InstructionValue::LoadLocal(read16(part, 16)),
+        2 => InstructionValue::FunctionExpression(read16(part, 22)),
+        3 => InstructionValue::CallExpression(read16(part, 16), read_run(part, 18)),
+        4 => InstructionValue::MethodCall(read16(part, 16), read_run(part, 18)),
+        5 => InstructionValue::ArrayExpression(read_run(part, 18)),
+        _ => InstructionValue::LoadGlobal,
+    }
+}
+
+pub fn read_instruction(part: &[u8]) -> Instruction
+    ensures { λ r. ⌜ r ≡ instruction-of (now (part .entry)) ⌝ }
+{
+    Instruction {
+        order: read32(part, 4),
+        lvalues: read_run(part, 8),
+        operands: read_run(part, 12),
+        value: read_instruction_value(part),
+    }
+}
+
+fn read_span(part: &[u8]) -> Option<Span>
+    ensures { λ r. ⌜ r ≡ span-of (now (part .entry)) ⌝ }
+{
+    if read16(part, 8) == 0 {
+        None
+    } else {
+        Some(Span { start: read32(part, 10), end: read32(part, 14) })
+    }
+}
+
+fn read_place(part: &[u8]) -> Place
+    ensures { λ r. ⌜ r ≡ place-of (now (part .entry)) ⌝ }
+{
+    Place {
+        value: read16(part, 2),
+        effect: codes::effect(read16(part, 6)),
+        span: read_span(part),
+    }
+}
+
+pub fn read_mention(part: &[u8]) -> Mention
+    ensures { λ r. ⌜ r ≡ mention-of (now (part .entry)) ⌝ }
+{
+    match read16(part, 4) {
+        0 => Mention::Place(read_place(part)),
+        1 => Mention::Spread(read_place(part)),
+        _ => Mention::Hole,
+    }
+}
