@@ -27,5 +27,12 @@ pub record Meaning : Type 0 where
 -- how many records each table has
 abbrev pub sizesOf : Meaning → Sizes
 sizesOf m = record {
-    names = length (m .names); values = length (m .values); functions = length (m .functions); blocks = length (m .blocks);
-    predecessors = length (m .predecessors); phis = length (m .phis); instructions = length (m .instructions); mentions = length (m .mentions) }
+  names = length (m .names);
+  values = length (m .values);
+  functions = length (m .functions);
+  blocks = length (m .blocks);
+  predecessors = length (m .predecessors);
+  phis = length (m .phis);
+  instructions = length (m .instructions);
+  mentions = length (m .mentions);
+}

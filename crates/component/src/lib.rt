@@ -5,8 +5,10 @@ ghost use mathlib.Core.List.{[], map};
 ghost use lib.ListN.{length, getD};
 ghost use Rattle.std.specs.shelf.Maps.{nth};
 ghost use Rattle.component.specs.Meaning.{Meaning, sizesOf};
+
 pub mod fault;
 pub mod records;
+
 use records::Block;
 use records::Function;
 use records::Instruction;
@@ -59,4 +61,15 @@ pub trait Component {
 
     fn mention(&self, n: usize) -> Option<Mention>
         ensures { λ r. ⌜ r ≡ nth (meaning (now (self .entry)) .mentions) n ⌝ };
+}
+
+// Entry `n` of a slice.
+pub fn pick<T: Copy>(entries: &[T], n: usize) -> Option<T>
+    ensures { λ r. ⌜ r ≡ nth (now (entries .entry)) n ⌝ }
+{
+    if n < entries.len() {
+        Some(entries[n])
+    } else {
+        None
+    }
 }

@@ -6,8 +6,10 @@ ghost use Prim.Native.Nat.{_+_, _^_, _<_};
 ghost use lib.ListN.{getD};
 ghost use Rattle.std.specs.shelf.Lists.{between};
 ghost use Rattle.fields.specs.Fields.{le16, le32, run-at};
+
 pub mod codes;
 pub mod readers;
+
 use component::records::Run;
 
 // The byte at `i`.
@@ -48,5 +50,8 @@ pub fn read_run(part: &[u8], at: usize) -> Run
     requires { ⌜ at + 4 < 2 ^ 64 ⌝ }
     ensures { λ r. ⌜ r ≡ run-at (now (part .entry)) at ⌝ }
 {
-    Run { start: read16(part, at), count: read16(part, at + 2) }
+    Run {
+        start: read16(part, at),
+        count: read16(part, at + 2),
+    }
 }

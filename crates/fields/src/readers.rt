@@ -1,10 +1,12 @@
 // Each record out of its part.
 ghost use mathlib.Core.Path.{_≡_};
+ghost use mathlib.Core.List.{List};
+ghost use Prim.Native.Nat.{ℕ};
 ghost use Rattle.fields.specs.Records.{value-of, function-at, block-of, returned-of, predecessor-of, phi-of, instruction-value-of, instruction-of, span-of, place-of, mention-of};
 use crate::codes;
+use crate::read_run;
 use crate::read16;
 use crate::read32;
-use crate::read_run;
 use component::records::Block;
 use component::records::Function;
 use component::records::Instruction;
@@ -17,51 +19,84 @@ use component::records::Predecessor;
 use component::records::Span;
 use component::records::Value;
 
-pub fn read_value(part: &[u8]) -> Value
-    ensures { λ r. ⌜ r ≡ value-of (now (part .entry)) ⌝ }
-{
-    Value {
-        name: codes::identifier_name(read16(part, 2), read16(part, 4)),
-        kind: codes::value_type(read16(part, 6)),
-        range: MutableRange { start: read32(part, 8), end: read32(part, 12) },
+// A record of the packed form, by what its bytes mean.
+pub trait PackedRecord: Sized {
+    ghost of: { List ℕ → Self };
+
+    fn read(part: &[u8]) -> Self
+        ensures { λ r. ⌜ r ≡ of (now (part .entry)) ⌝ };
+}
+
+pub impl PackedRecord for Value as PackedValue {
+    ghost of = { value-of };
+
+    fn read(part: &[u8]) -> Value {
+        Value {
+            name: codes::identifier_name(read16(part, 2), read16(part, 4)),
+            kind: codes::value_type(read16(part, 6)),
+            range: MutableRange {
+                start: read32(part, 8),
+                end: read32(part, 12),
+            },
+        }
     }
 }
 
-pub fn read_function(part: &[u8]) -> Function
-    ensures { λ r. ⌜ r ≡ function-at (now (part .entry)) ⌝ }
-{
-    Function { params: read_run(part, 2), blocks: read_run(part, 6) }
+pub impl PackedRecord for Function as PackedFunction {
+    ghost of = { function-at };
+
+    fn read(part: &[u8]) -> Function {
+        Function {
+            params: read_run(part, 2),
+            blocks: read_run(part, 6),
+        }
+    }
 }
 
 // The value of an explicit return, where there is one.
 fn read_returned(part: &[u8]) -> Option<u16>
     ensures { λ r. ⌜ r ≡ returned-of (now (part .entry)) ⌝ }
 {
-    if read16(part, 16) == 0 { None } else { Some(read16(part, 18)) }
-}
-
-pub fn read_block(part: &[u8]) -> Block
-    ensures { λ r. ⌜ r ≡ block-of (now (part .entry)) ⌝ }
-{
-    Block {
-        id: read16(part, 2),
-        predecessors: read_run(part, 4),
-        phis: read_run(part, 8),
-        instructions: read_run(part, 12),
-        returned: read_returned(part),
+    if read16(part, 16) == 0 {
+        None
+    } else {
+        Some(read16(part, 18))
     }
 }
 
-pub fn read_predecessor(part: &[u8]) -> Predecessor
-    ensures { λ r. ⌜ r ≡ predecessor-of (now (part .entry)) ⌝ }
-{
-    Predecessor { id: read16(part, 2) }
+pub impl PackedRecord for Block as PackedBlock {
+    ghost of = { block-of };
+
+    fn read(part: &[u8]) -> Block {
+        Block {
+            id: read16(part, 2),
+            predecessors: read_run(part, 4),
+            phis: read_run(part, 8),
+            instructions: read_run(part, 12),
+            returned: read_returned(part),
+        }
+    }
 }
 
-pub fn read_phi(part: &[u8]) -> Phi
-    ensures { λ r. ⌜ r ≡ phi-of (now (part .entry)) ⌝ }
-{
-    Phi { value: read16(part, 2), operands: read_run(part, 4) }
+pub impl PackedRecord for Predecessor as PackedPredecessor {
+    ghost of = { predecessor-of };
+
+    fn read(part: &[u8]) -> Predecessor {
+        Predecessor {
+            id: read16(part, 2),
+        }
+    }
+}
+
+pub impl PackedRecord for Phi as PackedPhi {
+    ghost of = { phi-of };
+
+    fn read(part: &[u8]) -> Phi {
+        Phi {
+            value: read16(part, 2),
+            operands: read_run(part, 4),
+        }
+    }
 }
 
 // The kind of an instruction, with the fields that this kind has.
@@ -79,14 +114,16 @@ fn read_instruction_value(part: &[u8]) -> InstructionValue
     }
 }
 
-pub fn read_instruction(part: &[u8]) -> Instruction
-    ensures { λ r. ⌜ r ≡ instruction-of (now (part .entry)) ⌝ }
-{
-    Instruction {
-        order: read32(part, 4),
-        lvalues: read_run(part, 8),
-        operands: read_run(part, 12),
-        value: read_instruction_value(part),
+pub impl PackedRecord for Instruction as PackedInstruction {
+    ghost of = { instruction-of };
+
+    fn read(part: &[u8]) -> Instruction {
+        Instruction {
+            order: read32(part, 4),
+            lvalues: read_run(part, 8),
+            operands: read_run(part, 12),
+            value: read_instruction_value(part),
+        }
     }
 }
 
@@ -96,7 +133,10 @@ fn read_span(part: &[u8]) -> Option<Span>
     if read16(part, 8) == 0 {
         None
     } else {
-        Some(Span { start: read32(part, 10), end: read32(part, 14) })
+        Some(Span {
+            start: read32(part, 10),
+            end: read32(part, 14),
+        })
     }
 }
 
@@ -110,12 +150,14 @@ fn read_place(part: &[u8]) -> Place
     }
 }
 
-pub fn read_mention(part: &[u8]) -> Mention
-    ensures { λ r. ⌜ r ≡ mention-of (now (part .entry)) ⌝ }
-{
-    match read16(part, 4) {
-        0 => Mention::Place(read_place(part)),
-        1 => Mention::Spread(read_place(part)),
-        _ => Mention::Hole,
+pub impl PackedRecord for Mention as PackedMention {
+    ghost of = { mention-of };
+
+    fn read(part: &[u8]) -> Mention {
+        match read16(part, 4) {
+            0 => Mention::Place(read_place(part)),
+            1 => Mention::Spread(read_place(part)),
+            _ => Mention::Hole,
+        }
     }
 }

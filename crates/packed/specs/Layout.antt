@@ -1,0 +1,56 @@
+-- Where the tables of a packed file stand: the header, then each table's
+-- records, then the text behind its mark.
+use mathlib.Core.List.{List}
+use Prim.Native.Nat.{ℕ, _+_, _*_}
+use Rattle.fields.specs.Fields.{le16}
+use Rattle.packed.specs.declared.layout.Extent.{Extent}
+use Rattle.packed.specs.declared.layout.Layout.{Layout}
+
+-- the header: `PC`, eight table sizes, text length, kind
+abbrev pub names-at : List ℕ → ℕ
+names-at bs = 22
+
+abbrev pub values-at : List ℕ → ℕ
+values-at bs = names-at bs + 6 * le16 bs 2
+
+abbrev pub functions-at : List ℕ → ℕ
+functions-at bs = values-at bs + 16 * le16 bs 4
+
+abbrev pub blocks-at : List ℕ → ℕ
+blocks-at bs = functions-at bs + 10 * le16 bs 6
+
+abbrev pub predecessors-at : List ℕ → ℕ
+predecessors-at bs = blocks-at bs + 20 * le16 bs 8
+
+abbrev pub phis-at : List ℕ → ℕ
+phis-at bs = predecessors-at bs + 4 * le16 bs 10
+
+abbrev pub instructions-at : List ℕ → ℕ
+instructions-at bs = phis-at bs + 8 * le16 bs 12
+
+abbrev pub mentions-at : List ℕ → ℕ
+mentions-at bs = instructions-at bs + 24 * le16 bs 14
+
+-- the text stands behind its mark
+abbrev pub text-at : List ℕ → ℕ
+text-at bs = mentions-at bs + 18 * le16 bs 16 + 2
+
+-- how long the file has to be
+abbrev pub end-of : List ℕ → ℕ
+end-of bs = text-at bs + le16 bs 18
+
+abbrev pub extent : ℕ → ℕ → Extent
+extent at n = record { start = at; count = n }
+
+abbrev pub layout-of : List ℕ → Layout
+layout-of bs = record {
+  names = extent (names-at bs) (le16 bs 2);
+  values = extent (values-at bs) (le16 bs 4);
+  functions = extent (functions-at bs) (le16 bs 6);
+  blocks = extent (blocks-at bs) (le16 bs 8);
+  predecessors = extent (predecessors-at bs) (le16 bs 10);
+  phis = extent (phis-at bs) (le16 bs 12);
+  instructions = extent (instructions-at bs) (le16 bs 14);
+  mentions = extent (mentions-at bs) (le16 bs 16);
+  text = extent (text-at bs) (le16 bs 18);
+}

@@ -1,0 +1,148 @@
+// A component that reads its records out of the bytes of a packed file.
+ghost use mathlib.Core.Path.{_≡_};
+ghost use Prim.Native.Nat.{ℕ, _+_, _*_, _<_, _≤_};
+ghost use denote.Ref.{now};
+ghost use Rattle.std.specs.Options.{Cases as BySome};
+ghost use Rattle.std.specs.shelf.Maps.{nth};
+ghost use Rattle.component.specs.Meaning.{Meaning};
+ghost use Rattle.packed.specs.Decoding.{record-part, table-of, name-in, text-of, meaning-at};
+pub mod layout;
+use component::Component;
+use component::pick;
+use component::records::Block;
+use component::records::Function;
+use component::records::Instruction;
+use component::records::Mention;
+use component::records::Phi;
+use component::records::Predecessor;
+use component::records::ReactFunctionType;
+use component::records::Sizes;
+use component::records::Value;
+use fields::part_at;
+use fields::read16;
+use fields::readers::PackedBlock;
+use fields::readers::PackedFunction;
+use fields::readers::PackedInstruction;
+use fields::readers::PackedMention;
+use fields::readers::PackedPhi;
+use fields::readers::PackedPredecessor;
+use fields::readers::PackedRecord;
+use fields::readers::PackedValue;
+use layout::Extent;
+use layout::Layout;
+
+// The part of the bytes that record `n` takes, where each record has `size`
+// bytes.
+fn record_part(bytes: &[u8], table: Extent, size: usize, n: usize) -> Option<&[u8]>
+    requires { ⌜ size ≤ 24 ⌝ }
+    ensures { λ r. ⌜ BySome r (table .count ≤ n) (λ s. (n < table .count) × (now s ≡ record-part size (now (bytes .entry)) table n)) ⌝ }
+{
+    if n < table.count as usize {
+        Some(part_at(bytes, table.start as usize + size * n, size))
+    } else {
+        None
+    }
+}
+
+// Record `n` of a table.
+fn nth_record<R: PackedRecord>(bytes: &[u8], table: Extent, size: usize, n: usize) -> Option<R>
+    requires { ⌜ size ≤ 24 ⌝ }
+    ensures { λ r. ⌜ r ≡ nth (table-of (R·PackedRecord .of) size (now (bytes .entry)) table) n ⌝ }
+{
+    match record_part(bytes, table, size, n) {
+        Some(part) => Some(R::read(part)),
+        None => None,
+    }
+}
+
+// The bytes of name `n`.
+fn name_part(bytes: &[u8], layout: Layout, n: usize) -> Option<&[u8]>
+    ensures { λ r. ⌜ BySome r (layout .names .count ≤ n) (λ s. (n < layout .names .count) × (now s ≡ name-in (text-of (now (bytes .entry)) (layout .text)) (record-part 6 (now (bytes .entry)) (layout .names) n))) ⌝ }
+{
+    match record_part(bytes, layout.names, 6, n) {
+        Some(part) => {
+            let text = part_at(bytes, layout.text.start as usize, layout.text.count as usize);
+            Some(part_at(text, read16(part, 2) as usize, read16(part, 4) as usize))
+        }
+        None => None,
+    }
+}
+
+#[derive(Clone, Copy)]
+pub struct Packed<'a> {
+    bytes: &'a [u8],
+    kind: ReactFunctionType,
+    layout: Layout,
+}
+
+impl<'a> Packed<'a> {
+    // How many bytes of text the file has.
+    pub fn text_length(&self) -> usize
+        ensures { λ r. ⌜ r ≡ now (self .entry) .layout .text .count ⌝ }
+    {
+        self.layout.text.count as usize
+    }
+}
+
+pub impl<'a> Component for Packed<'a> as PackedComponent {
+    ghost meaning = { λ p. meaning-at (now (p .bytes)) (p .kind) (p .layout) };
+
+    fn kind(&self) -> ReactFunctionType {
+        self.kind
+    }
+
+    fn sizes(&self) -> Sizes {
+        Sizes {
+            names: self.layout.names.count as usize,
+            values: self.layout.values.count as usize,
+            functions: self.layout.functions.count as usize,
+            blocks: self.layout.blocks.count as usize,
+            predecessors: self.layout.predecessors.count as usize,
+            phis: self.layout.phis.count as usize,
+            instructions: self.layout.instructions.count as usize,
+            mentions: self.layout.mentions.count as usize,
+        }
+    }
+
+    fn name_length(&self, n: usize) -> Option<usize> {
+        match name_part(self.bytes, self.layout, n) {
+            Some(name) => Some(name.len()),
+            None => None,
+        }
+    }
+
+    fn name_byte(&self, n: usize, i: usize) -> Option<u8> {
+        match name_part(self.bytes, self.layout, n) {
+            Some(name) => pick(name, i),
+            None => None,
+        }
+    }
+
+    fn value(&self, n: usize) -> Option<Value> {
+        nth_record::<PackedValue>(self.bytes, self.layout.values, 16, n)
+    }
+
+    fn function(&self, n: usize) -> Option<Function> {
+        nth_record::<PackedFunction>(self.bytes, self.layout.functions, 10, n)
+    }
+
+    fn block(&self, n: usize) -> Option<Block> {
+        nth_record::<PackedBlock>(self.bytes, self.layout.blocks, 20, n)
+    }
+
+    fn predecessor(&self, n: usize) -> Option<Predecessor> {
+        nth_record::<PackedPredecessor>(self.bytes, self.layout.predecessors, 4, n)
+    }
+
+    fn phi(&self, n: usize) -> Option<Phi> {
+        nth_record::<PackedPhi>(self.bytes, self.layout.phis, 8, n)
+    }
+
+    fn instruction(&self, n: usize) -> Option<Instruction> {
+        nth_record::<PackedInstruction>(self.bytes, self.layout.instructions, 24, n)
+    }
+
+    fn mention(&self, n: usize) -> Option<Mention> {
+        nth_record::<PackedMention>(self.bytes, self.layout.mentions, 18, n)
+    }
+}
