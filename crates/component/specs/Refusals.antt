@@ -1,8 +1,10 @@
 -- A refusal is a number and a place.
-use Prim.Native.Nat.{ℕ}
+use Prim.Native.Nat.{ℕ, zero, suc}
+use Rattle.std.specs.Options.{orOther}
+use Rattle.std.specs.declared.option.Option.{Option}
+use Rattle.std.specs.declared.option.Option.the-variants.{None}
 use Rattle.component.specs.declared.fault.Reason.{Reason}
 use Rattle.component.specs.declared.fault.Reason.the-variants.{TableSize, RecordNumber, ListOrder, NameText, FileLength, RecordMark, FieldCode, ShortMemory, StrayMemory, UnknownEffect, UseTableFull, TooManyPasses, NothingChanged, StillChanging, NoEffectLeft, ReportsFull, NoSuchReport, SourceCycle, PoolFull, BufferFull}
-use Rattle.component.specs.declared.fault.Fault.{Fault}
 
 abbrev pub numberOf : Reason → ℕ
 numberOf TableSize = 1
@@ -25,3 +27,8 @@ numberOf NoSuchReport = 17
 numberOf SourceCycle = 18
 numberOf PoolFull = 19
 numberOf BufferFull = 20
+
+-- the first refusal that f gives for a number below n
+abbrev pub firstIn : {X : Type 0} → (ℕ → Option X) → ℕ → Option X
+firstIn f zero = None
+firstIn f (suc n) = orOther (firstIn f n) (f n)

@@ -6,7 +6,7 @@ use lib.ListN.{length, getD}
 use Rattle.std.specs.shelf.Maps.{nth}
 use Rattle.std.specs.declared.option.Option.the-variants.{Some, None}
 use Rattle.component.proofs.Tables.{nth-tabled, nth-tabled-past, nth-map-some, nth-map-none, getD-nth-some, getD-nth-none}
-use Rattle.packed.specs.declared.layout.Layout.{Layout}
+use Rattle.layout.specs.declared.Layout.{Layout}
 use Rattle.packed.specs.Decoding.{record-part, table-of, name-in, text-of}
 
 module _ (bs : List ℕ) (l : Layout) (n : ℕ) where

@@ -6,7 +6,6 @@ ghost use Rattle.std.specs.Options.{Cases as BySome};
 ghost use Rattle.std.specs.shelf.Maps.{nth};
 ghost use Rattle.component.specs.Meaning.{Meaning};
 ghost use Rattle.packed.specs.Decoding.{record-part, table-of, name-in, text-of, meaning-at};
-pub mod layout;
 use component::Component;
 use component::pick;
 use component::records::Block;
@@ -61,7 +60,11 @@ fn name_part(bytes: &[u8], layout: Layout, n: usize) -> Option<&[u8]>
 {
     match record_part(bytes, layout.names, 6, n) {
         Some(part) => {
-            let text = part_at(bytes, layout.text.start as usize, layout.text.count as usize);
+            let text = part_at(
+                bytes,
+                layout.text.start as usize,
+                layout.text.count as usize,
+            );
             Some(part_at(text, read16(part, 2) as usize, read16(part, 4) as usize))
         }
         None => None,

@@ -3,8 +3,10 @@
 use mathlib.Core.List.{List}
 use Prim.Native.Nat.{ℕ, _+_, _*_}
 use Rattle.fields.specs.Fields.{le16}
-use Rattle.packed.specs.declared.layout.Extent.{Extent}
-use Rattle.packed.specs.declared.layout.Layout.{Layout}
+use Rattle.layout.specs.declared.Extent.{Extent}
+use Rattle.layout.specs.declared.Layout.{Layout}
+use Rattle.layout.specs.declared.Table.{Table}
+use Rattle.layout.specs.declared.Table.the-variants as table
 
 -- the header: `PC`, eight table sizes, text length, kind
 abbrev pub names-at : List ℕ → ℕ
@@ -54,3 +56,27 @@ layout-of bs = record {
   mentions = extent (mentions-at bs) (le16 bs 16);
   text = extent (text-at bs) (le16 bs 18);
 }
+
+abbrev pub size-of : Table → ℕ
+size-of table.Names = 6
+size-of table.Values = 16
+size-of table.Functions = 10
+size-of table.Blocks = 20
+size-of table.Predecessors = 4
+size-of table.Phis = 8
+size-of table.Instructions = 24
+size-of table.Mentions = 18
+
+abbrev pub extent-in : Layout → Table → Extent
+extent-in l table.Names = l .names
+extent-in l table.Values = l .values
+extent-in l table.Functions = l .functions
+extent-in l table.Blocks = l .blocks
+extent-in l table.Predecessors = l .predecessors
+extent-in l table.Phis = l .phis
+extent-in l table.Instructions = l .instructions
+extent-in l table.Mentions = l .mentions
+
+-- the byte at which record `i` of a table begins
+abbrev pub record-at : Table → Extent → ℕ → ℕ
+record-at t e i = e .start + size-of t * i

@@ -1,8 +1,45 @@
-// Where the tables of a packed file stand.
+// Where the tables of a packed file stand, and what makes bytes a packed file.
 ghost use mathlib.Core.Path.{_≡_};
-ghost use Prim.Native.Nat.{_+_, _*_, _≤_};
-ghost use Rattle.packed.specs.Layout.{layout-of, end-of};
+ghost use Prim.Native.Nat.{_+_, _≤_};
+ghost use Rattle.layout.specs.Layout.{layout-of, size-of, extent-in};
+
+pub mod checks;
+
 use fields::read16;
+
+// The longest that a packed file can be: every table and the text at 65,535.
+pub const MAX_LENGTH: usize = 7012269;
+
+// The tables, in the order in which a file has them.
+#[derive(Clone, Copy)]
+pub enum Table {
+    Names,
+    Values,
+    Functions,
+    Blocks,
+    Predecessors,
+    Phis,
+    Instructions,
+    Mentions,
+}
+
+impl Table {
+    // How many bytes a record has, with its mark.
+    pub fn record_size(self) -> usize
+        ensures { λ r. ⌜ r ≡ size-of self ⌝ }
+    {
+        match self {
+            Table::Names => 6,
+            Table::Values => 16,
+            Table::Functions => 10,
+            Table::Blocks => 20,
+            Table::Predecessors => 4,
+            Table::Phis => 8,
+            Table::Instructions => 24,
+            Table::Mentions => 18,
+        }
+    }
+}
 
 // Records one after the other: `count` of them, the first at byte `start`. The
 // text is one of single bytes.
@@ -23,6 +60,23 @@ pub struct Layout {
     pub instructions: Extent,
     pub mentions: Extent,
     pub text: Extent,
+}
+
+impl Layout {
+    pub fn extent(&self, table: Table) -> Extent
+        ensures { λ r. ⌜ r ≡ extent-in (now (self .entry)) table ⌝ }
+    {
+        match table {
+            Table::Names => self.names,
+            Table::Values => self.values,
+            Table::Functions => self.functions,
+            Table::Blocks => self.blocks,
+            Table::Predecessors => self.predecessors,
+            Table::Phis => self.phis,
+            Table::Instructions => self.instructions,
+            Table::Mentions => self.mentions,
+        }
+    }
 }
 
 // The layout that the header's sizes give.

@@ -1,0 +1,127 @@
+-- Why bytes are no packed file: first its length, then the first wrong mark,
+-- then the first code past its last or name past the text.
+use mathlib.Core.Path.{_≡_}
+use mathlib.Core.List.{List}
+use mathlib.Core.Bool.{Bool, cond, _&&_}
+use Prim.Native.Nat.{ℕ, zero, suc, _+_, _*_, min}
+use lib.Dec.{eqb, ltb, leb}
+use lib.ListN.{getD, length}
+use Rattle.std.specs.declared.option.Option.{Option}
+use Rattle.std.specs.declared.option.Option.the-variants.{Some, None}
+use Rattle.std.specs.declared.result.Result.{Result}
+use Rattle.std.specs.declared.result.Result.the-variants.{Ok, Err}
+use Rattle.std.specs.Options.{orOther}
+use Rattle.std.specs.Results.{errPart}
+use Rattle.component.specs.Refusals.{firstIn}
+use Rattle.component.specs.declared.fault.Fault.{Fault}
+use Rattle.component.specs.declared.fault.Reason.the-variants.{FileLength, RecordMark, FieldCode}
+use Rattle.fields.specs.Fields.{le16}
+use Rattle.layout.specs.declared.Extent.{Extent}
+use Rattle.layout.specs.declared.Layout.{Layout}
+use Rattle.layout.specs.declared.Table.{Table}
+use Rattle.layout.specs.declared.Table.the-variants as table
+use Rattle.layout.specs.declared.checks.Mark.{Mark}
+use Rattle.layout.specs.Layout.{layout-of, end-of, size-of, extent-in, record-at}
+
+-- the place of a wrong length is the first byte that is missing or over; a
+-- file without a whole header misses its next byte
+abbrev pub length-fault : List ℕ → Option Fault
+length-fault bs =
+    cond (ltb (length bs) 22) (Some (record { reason = FileLength; place = length bs }))
+    (cond (eqb (length bs) (end-of bs)) None (Some (record { reason = FileLength; place = min (length bs) (end-of bs) })))
+
+-- two letters, as their bytes
+abbrev pub mark : ℕ → ℕ → Mark
+mark a b = record { first = a; second = b }
+
+abbrev pub mark-of : Table → Mark
+mark-of table.Names = mark 78 77
+mark-of table.Values = mark 86 65
+mark-of table.Functions = mark 70 78
+mark-of table.Blocks = mark 66 76
+mark-of table.Predecessors = mark 80 82
+mark-of table.Phis = mark 80 72
+mark-of table.Instructions = mark 73 78
+mark-of table.Mentions = mark 77 69
+
+-- `PC`
+abbrev pub header-mark : Mark
+header-mark = mark 80 67
+
+-- `TX`
+abbrev pub text-mark : Mark
+text-mark = mark 84 88
+
+abbrev pub mark-fault : List ℕ → ℕ → Mark → Option Fault
+mark-fault bs at m =
+    cond (eqb (getD bs at 0) (m .first) && eqb (getD bs (at + 1) 0) (m .second)) None (Some (record { reason = RecordMark; place = at }))
+
+-- a code field at `at` whose codes are those below `limit`
+abbrev pub code-fault : List ℕ → ℕ → ℕ → Option Fault
+code-fault bs at limit = cond (ltb (le16 bs at) limit) None (Some (record { reason = FieldCode; place = at }))
+
+-- a name ends within the text's `n` bytes
+abbrev pub name-fault : List ℕ → ℕ → ℕ → Option Fault
+name-fault bs n at =
+    cond (leb (le16 bs (at + 2) + le16 bs (at + 4)) n) None (Some (record { reason = FieldCode; place = at + 2 }))
+
+-- form, type
+abbrev pub value-fault : List ℕ → ℕ → Option Fault
+value-fault bs at = orOther (code-fault bs (at + 2) 3) (code-fault bs (at + 6) 5)
+
+-- form; and but for a hole, effect and span
+abbrev pub mention-fault : List ℕ → ℕ → Option Fault
+mention-fault bs at =
+    orOther (code-fault bs (at + 4) 3)
+    (cond (eqb (le16 bs (at + 4)) 2) None (orOther (code-fault bs (at + 6) 8) (code-fault bs (at + 8) 2)))
+
+-- the codes of the record at `at`, in a file whose text has `n` bytes
+abbrev pub record-fault : Table → List ℕ → ℕ → ℕ → Option Fault
+record-fault table.Names bs n at = name-fault bs n at
+record-fault table.Values bs n at = value-fault bs at
+record-fault table.Functions bs n at = None
+record-fault table.Blocks bs n at = code-fault bs (at + 16) 2
+record-fault table.Predecessors bs n at = None
+record-fault table.Phis bs n at = None
+record-fault table.Instructions bs n at = code-fault bs (at + 2) 7
+record-fault table.Mentions bs n at = mention-fault bs at
+
+abbrev pub mark-of-record : Table → List ℕ → Extent → ℕ → Option Fault
+mark-of-record t bs e i = mark-fault bs (record-at t e i) (mark-of t)
+
+abbrev pub codes-of-record : Table → List ℕ → ℕ → Extent → ℕ → Option Fault
+codes-of-record t bs n e i = record-fault t bs n (record-at t e i)
+
+-- the first of a table
+abbrev pub marks-in : List ℕ → Layout → Table → Option Fault
+marks-in bs l t = firstIn (mark-of-record t bs (extent-in l t)) (extent-in l t .count)
+
+abbrev pub codes-in : List ℕ → Layout → Table → Option Fault
+codes-in bs l t = firstIn (codes-of-record t bs (l .text .count) (extent-in l t)) (extent-in l t .count)
+
+-- the first of the file, in file order; the text's mark stands behind the last
+-- mention
+abbrev pub marks-fault : List ℕ → Layout → Option Fault
+marks-fault bs l =
+    orOther (mark-fault bs 0 header-mark)
+    (orOther (marks-in bs l table.Names) (orOther (marks-in bs l table.Values) (orOther (marks-in bs l table.Functions)
+    (orOther (marks-in bs l table.Blocks) (orOther (marks-in bs l table.Predecessors) (orOther (marks-in bs l table.Phis)
+    (orOther (marks-in bs l table.Instructions) (orOther (marks-in bs l table.Mentions)
+    (mark-fault bs (record-at table.Mentions (l .mentions) (l .mentions .count)) text-mark)))))))))
+
+abbrev pub codes-fault : List ℕ → Layout → Option Fault
+codes-fault bs l =
+    orOther (code-fault bs 20 3)
+    (orOther (codes-in bs l table.Names) (orOther (codes-in bs l table.Values) (orOther (codes-in bs l table.Functions)
+    (orOther (codes-in bs l table.Blocks) (orOther (codes-in bs l table.Predecessors) (orOther (codes-in bs l table.Phis)
+    (orOther (codes-in bs l table.Instructions) (codes-in bs l table.Mentions))))))))
+
+-- why the bytes are no packed file; none where they are one
+abbrev pub fault-of : List ℕ → Option Fault
+fault-of bs = orOther (length-fault bs) (orOther (marks-fault bs (layout-of bs)) (codes-fault bs (layout-of bs)))
+
+-- one run over records: a wrong mark ends it, and else it answers the first
+-- wrong code
+abbrev pub Scanned : Result (Option Fault) Fault → Option Fault → Option Fault → Type 0
+Scanned (Ok found) marks codes = (marks ≡ None) × (found ≡ codes)
+Scanned (Err e) marks codes = marks ≡ Some e
