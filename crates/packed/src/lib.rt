@@ -3,10 +3,15 @@ ghost use mathlib.Core.Path.{_≡_};
 ghost use Prim.Native.Nat.{ℕ, _+_, _*_, _<_, _≤_};
 ghost use denote.Ref.{now};
 ghost use Rattle.std.specs.Options.{Cases as BySome};
+ghost use Rattle.std.specs.Results.{errPart};
+ghost use Rattle.std.specs.Vec.{made};
 ghost use Rattle.std.specs.shelf.Maps.{nth};
 ghost use Rattle.component.specs.Meaning.{Meaning};
-ghost use Rattle.packed.specs.Decoding.{record-part, table-of, name-in, text-of, meaning-at};
+ghost use Rattle.fields.specs.Fields.{le16};
+ghost use Rattle.layout.specs.Faults.{fault-of};
+ghost use Rattle.packed.specs.Decoding.{record-part, table-of, name-in, text-of, meaning-at, decoded};
 use component::Component;
+use component::fault::Fault;
 use component::pick;
 use component::records::Block;
 use component::records::Function;
@@ -17,6 +22,7 @@ use component::records::Predecessor;
 use component::records::ReactFunctionType;
 use component::records::Sizes;
 use component::records::Value;
+use fields::codes::function_type;
 use fields::part_at;
 use fields::read16;
 use fields::readers::PackedBlock;
@@ -29,6 +35,7 @@ use fields::readers::PackedRecord;
 use fields::readers::PackedValue;
 use layout::Extent;
 use layout::Layout;
+use layout::checks::check_file;
 
 // The part of the bytes that record `n` takes, where each record has `size`
 // bytes.
@@ -79,6 +86,20 @@ pub struct Packed<'a> {
 }
 
 impl<'a> Packed<'a> {
+    // The component of a packed file, or why the bytes are none.
+    pub fn open(bytes: &'a [u8]) -> Result<Packed<'a>, Fault>
+        ensures judged { λ r. ⌜ errPart r ≡ fault-of (now (bytes .entry)) ⌝ }
+        ensures meaning { λ r. ⌜ made r (λ p. meaning-at (now (p .bytes)) (p .kind) (p .layout) ≡ decoded (now (bytes .entry))) ⌝ }
+        ensures text { λ r. ⌜ made r (λ p. p .layout .text .count ≡ le16 (now (bytes .entry)) 18) ⌝ }
+    {
+        let layout = check_file(bytes)?;
+        Ok(Packed {
+            bytes,
+            kind: function_type(read16(bytes, 20)),
+            layout,
+        })
+    }
+
     // How many bytes of text the file has.
     pub fn text_length(&self) -> usize
         ensures { λ r. ⌜ r ≡ now (self .entry) .layout .text .count ⌝ }

@@ -32,10 +32,11 @@ loop-i-again c =
     let i = c .loop-i .i in
     let m = mark-at-record t bs e _ _ i (c .extent-extent .ensures) (c .record-size-size .ensures) _ (c .mark-mark .ensures) in
     let d = codes-at-record t bs e _ _ i (c .extent-extent .ensures) (c .record-size-size .ensures) n in
-    let f = codes-of-record t bs n e in
-    (firstIn-none (mark-of-record t bs e) i (c .loop-i .inv .0) (sym m ∙ sym (c .in-Continue-check-mark .ensures tt)),
-     c .or-found .ensures
-     ∙ ap (λ o. orOther o (c .err .result)) (c .loop-i .inv .1)
-     ∙ ap (orOther (orOther (c .args .earlier) (firstIn f i))) (c .err .ensures .value ∙ c .check-record .ensures ∙ d)
-     ∙ orOther-assoc (c .args .earlier) (firstIn f i) (f i)
-     ∙ ap (orOther (c .args .earlier)) (sym (firstIn-more f i)))
+    let f = codes-of-record t bs n e in (
+      firstIn-none (mark-of-record t bs e) i (c .loop-i .inv .0) (sym m ∙ sym (c .in-Continue-check-mark .ensures tt)),
+      c .or-found .ensures
+          ∙ ap (λ o. orOther o (c .err .result)) (c .loop-i .inv .1)
+          ∙ ap (orOther (orOther (c .args .earlier) (firstIn f i))) (c .err .ensures .value ∙ c .check-record .ensures ∙ d)
+          ∙ orOther-assoc (c .args .earlier) (firstIn f i) (f i)
+          ∙ ap (orOther (c .args .earlier)) (sym (firstIn-more f i)),
+    )
