@@ -35,3 +35,9 @@ module _ {X : Type 0} (f : ℕ → Option X) where
         | inl q ↦ ap (λ o. orOther o (f n)) (ap (firstIn f) (sym q) ∙ h) ∙ ap f (sym q) ∙ e
         | inr q ↦ ap (λ o. orOther o (f n)) (firstIn-hit n i x h e (omega arith))
       ]
+
+-- two that give the same below n
+pub firstIn-same : {X : Type 0} (f g : ℕ → Option X) (n : ℕ) → ((i : ℕ) → i < n → f i ≡ g i) → firstIn f n ≡ firstIn g n
+firstIn-same f g zero h = refl
+firstIn-same f g (suc n) h =
+    let rest = firstIn-same f g n (λ i l. h i (omega arith)) in let last = h n (omega arith) in cc

@@ -1,1 +1,3 @@
+mod Files
 mod Names
+mod Used

@@ -10,6 +10,7 @@ ghost use Rattle.component.specs.Meaning.{Meaning};
 ghost use Rattle.fields.specs.Fields.{le16};
 ghost use Rattle.layout.specs.Faults.{fault-of};
 ghost use Rattle.packed.specs.Decoding.{record-part, table-of, name-in, text-of, meaning-at, decoded};
+ghost use Rattle.packed.specs.Laws.{Unused-not-read, Overlong-by-header};
 use component::Component;
 use component::fault::Fault;
 use component::pick;
@@ -35,7 +36,9 @@ use fields::readers::PackedRecord;
 use fields::readers::PackedValue;
 use layout::Extent;
 use layout::Layout;
+pub use layout::MAX_LENGTH;
 use layout::checks::check_file;
+use layout::read_layout;
 
 // The part of the bytes that record `n` takes, where each record has `size`
 // bytes.
@@ -78,6 +81,15 @@ fn name_part(bytes: &[u8], layout: Layout, n: usize) -> Option<&[u8]>
     }
 }
 
+// What holds of every file; nothing comes of it but these laws. The second
+// rests on the longest end that a header can give.
+fn file_laws(bytes: &[u8])
+    ensures unused { λ _. ⌜ Unused-not-read (now (bytes .entry)) ⌝ }
+    ensures overlong { λ _. ⌜ Overlong-by-header (now (bytes .entry)) ⌝ }
+{
+    let _layout = read_layout(bytes);
+}
+
 #[derive(Clone, Copy)]
 pub struct Packed<'a> {
     bytes: &'a [u8],
@@ -90,8 +102,11 @@ impl<'a> Packed<'a> {
     pub fn open(bytes: &'a [u8]) -> Result<Packed<'a>, Fault>
         ensures judged { λ r. ⌜ errPart r ≡ fault-of (now (bytes .entry)) ⌝ }
         ensures meaning { λ r. ⌜ made r (λ p. meaning-at (now (p .bytes)) (p .kind) (p .layout) ≡ decoded (now (bytes .entry))) ⌝ }
+        ensures unused { λ _. ⌜ Unused-not-read (now (bytes .entry)) ⌝ }
+        ensures overlong { λ _. ⌜ Overlong-by-header (now (bytes .entry)) ⌝ }
         ensures text { λ r. ⌜ made r (λ p. p .layout .text .count ≡ le16 (now (bytes .entry)) 18) ⌝ }
     {
+        file_laws(bytes);
         let layout = check_file(bytes)?;
         Ok(Packed {
             bytes,
