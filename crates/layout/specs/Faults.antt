@@ -31,26 +31,26 @@ length-fault bs =
     (cond (eqb (length bs) (end-of bs)) None (Some (record { reason = FileLength; place = min (length bs) (end-of bs) })))
 
 -- two letters, as their bytes
-abbrev pub mark : ℕ → ℕ → Mark
-mark a b = record { first = a; second = b }
+abbrev pub letters : ℕ → ℕ → Mark
+letters a b = record { first = a; second = b }
 
 abbrev pub mark-of : Table → Mark
-mark-of table.Names = mark 78 77
-mark-of table.Values = mark 86 65
-mark-of table.Functions = mark 70 78
-mark-of table.Blocks = mark 66 76
-mark-of table.Predecessors = mark 80 82
-mark-of table.Phis = mark 80 72
-mark-of table.Instructions = mark 73 78
-mark-of table.Mentions = mark 77 69
+mark-of table.Names = letters 78 77
+mark-of table.Values = letters 86 65
+mark-of table.Functions = letters 70 78
+mark-of table.Blocks = letters 66 76
+mark-of table.Predecessors = letters 80 82
+mark-of table.Phis = letters 80 72
+mark-of table.Instructions = letters 73 78
+mark-of table.Mentions = letters 77 69
 
 -- `PC`
 abbrev pub header-mark : Mark
-header-mark = mark 80 67
+header-mark = letters 80 67
 
 -- `TX`
 abbrev pub text-mark : Mark
-text-mark = mark 84 88
+text-mark = letters 84 88
 
 abbrev pub mark-fault : List ℕ → ℕ → Mark → Option Fault
 mark-fault bs at m =

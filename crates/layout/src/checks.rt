@@ -6,7 +6,7 @@ ghost use Rattle.std.specs.Options.{orOther};
 ghost use Rattle.std.specs.Results.{errPart};
 ghost use Rattle.std.specs.Vec.{made};
 ghost use Rattle.layout.specs.Layout.{layout-of, end-of, extent-in};
-ghost use Rattle.layout.specs.Faults.{Scanned, mark-of, mark-fault, code-fault, name-fault, value-fault, mention-fault, record-fault, length-fault, marks-in, codes-in, marks-fault, codes-fault, fault-of};
+ghost use Rattle.layout.specs.Faults.{Scanned, letters, mark-of, mark-fault, code-fault, name-fault, value-fault, mention-fault, record-fault, length-fault, marks-in, codes-in, marks-fault, codes-fault, fault-of};
 use crate::Layout;
 use crate::Table;
 use crate::read_layout;
@@ -32,43 +32,25 @@ const TEXT: Mark = Mark {
     second: b'X',
 };
 
+fn letters(first: u8, second: u8) -> Mark
+    ensures { λ r. ⌜ r ≡ letters first second ⌝ }
+{
+    Mark { first, second }
+}
+
 impl Table {
     pub fn mark(self) -> Mark
         ensures { λ r. ⌜ r ≡ mark-of self ⌝ }
     {
         match self {
-            Table::Names => Mark {
-                first: b'N',
-                second: b'M',
-            },
-            Table::Values => Mark {
-                first: b'V',
-                second: b'A',
-            },
-            Table::Functions => Mark {
-                first: b'F',
-                second: b'N',
-            },
-            Table::Blocks => Mark {
-                first: b'B',
-                second: b'L',
-            },
-            Table::Predecessors => Mark {
-                first: b'P',
-                second: b'R',
-            },
-            Table::Phis => Mark {
-                first: b'P',
-                second: b'H',
-            },
-            Table::Instructions => Mark {
-                first: b'I',
-                second: b'N',
-            },
-            Table::Mentions => Mark {
-                first: b'M',
-                second: b'E',
-            },
+            Table::Names => letters(b'N', b'M'),
+            Table::Values => letters(b'V', b'A'),
+            Table::Functions => letters(b'F', b'N'),
+            Table::Blocks => letters(b'B', b'L'),
+            Table::Predecessors => letters(b'P', b'R'),
+            Table::Phis => letters(b'P', b'H'),
+            Table::Instructions => letters(b'I', b'N'),
+            Table::Mentions => letters(b'M', b'E'),
         }
     }
 }
@@ -204,7 +186,7 @@ fn check_table(
 fn check_records(bytes: &[u8], layout: &Layout) -> Result<Option<Fault>, Fault>
     ensures { λ r. ⌜ Scanned r (marks-fault (now (bytes .entry)) (now (layout .entry))) (codes-fault (now (bytes .entry)) (now (layout .entry))) ⌝ }
 {
-    check_mark(bytes, 0, HEADER)?;
+    check_mark(bytes, 0, letters(b'P', b'C'))?;
     let found = check_code(bytes, 20, 3).err();
     let found = check_table(bytes, layout, Table::Names, found)?;
     let found = check_table(bytes, layout, Table::Values, found)?;
@@ -215,7 +197,7 @@ fn check_records(bytes: &[u8], layout: &Layout) -> Result<Option<Fault>, Fault>
     let found = check_table(bytes, layout, Table::Instructions, found)?;
     let found = check_table(bytes, layout, Table::Mentions, found)?;
     let text = layout.mentions.start as usize + 18 * layout.mentions.count as usize;
-    check_mark(bytes, text, TEXT)?;
+    check_mark(bytes, text, letters(b'T', b'X'))?;
     Ok(found)
 }
 

@@ -9,7 +9,8 @@ use Rattle.fields.specs.Fields.{le16, function-of}
 use Rattle.fields.specs.Records.{value-of, function-at, block-of, predecessor-of, phi-of, instruction-of, mention-of}
 use Rattle.layout.specs.declared.Extent.{Extent}
 use Rattle.layout.specs.declared.Layout.{Layout}
-use Rattle.layout.specs.Layout.{layout-of}
+use Rattle.layout.specs.declared.Table.the-variants as table
+use Rattle.layout.specs.Layout.{layout-of, size-of}
 
 -- the bytes of record `i`, from its mark on, where each record has `size` bytes
 abbrev pub record-part : ℕ → List ℕ → Extent → ℕ → List ℕ
@@ -29,14 +30,14 @@ name-in text b = between (le16 b 2) (le16 b 2 + le16 b 4) text
 abbrev pub meaning-at : List ℕ → ReactFunctionType → Layout → Meaning
 meaning-at bs k l = record {
   kind = k;
-  names = table-of (name-in (text-of bs (l .text))) 6 bs (l .names);
-  values = table-of value-of 16 bs (l .values);
-  functions = table-of function-at 10 bs (l .functions);
-  blocks = table-of block-of 20 bs (l .blocks);
-  predecessors = table-of predecessor-of 4 bs (l .predecessors);
-  phis = table-of phi-of 8 bs (l .phis);
-  instructions = table-of instruction-of 24 bs (l .instructions);
-  mentions = table-of mention-of 18 bs (l .mentions);
+  names = table-of (name-in (text-of bs (l .text))) (size-of table.Names) bs (l .names);
+  values = table-of value-of (size-of table.Values) bs (l .values);
+  functions = table-of function-at (size-of table.Functions) bs (l .functions);
+  blocks = table-of block-of (size-of table.Blocks) bs (l .blocks);
+  predecessors = table-of predecessor-of (size-of table.Predecessors) bs (l .predecessors);
+  phis = table-of phi-of (size-of table.Phis) bs (l .phis);
+  instructions = table-of instruction-of (size-of table.Instructions) bs (l .instructions);
+  mentions = table-of mention-of (size-of table.Mentions) bs (l .mentions);
 }
 
 -- the meaning of a packed file

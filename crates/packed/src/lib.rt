@@ -8,6 +8,7 @@ ghost use Rattle.std.specs.Vec.{made};
 ghost use Rattle.std.specs.shelf.Maps.{nth};
 ghost use Rattle.component.specs.Meaning.{Meaning};
 ghost use Rattle.fields.specs.Fields.{le16};
+ghost use Rattle.layout.specs.Layout.{extent-in, size-of};
 ghost use Rattle.layout.specs.Faults.{fault-of};
 ghost use Rattle.packed.specs.Decoding.{record-part, table-of, name-in, text-of, meaning-at, decoded};
 ghost use Rattle.packed.specs.Laws.{Unused-not-read, Overlong-by-header};
@@ -34,41 +35,40 @@ use fields::readers::PackedPhi;
 use fields::readers::PackedPredecessor;
 use fields::readers::PackedRecord;
 use fields::readers::PackedValue;
-use layout::Extent;
 use layout::Layout;
 pub use layout::MAX_LENGTH;
+use layout::Table;
 use layout::checks::check_file;
 use layout::read_layout;
 
-// The part of the bytes that record `n` takes, where each record has `size`
-// bytes.
-fn record_part(bytes: &[u8], table: Extent, size: usize, n: usize) -> Option<&[u8]>
-    requires { ⌜ size ≤ 24 ⌝ }
-    ensures { λ r. ⌜ BySome r (table .count ≤ n) (λ s. (n < table .count) × (now s ≡ record-part size (now (bytes .entry)) table n)) ⌝ }
+// The part of the bytes that record `n` of a table takes.
+fn record_part<'a>(bytes: &'a [u8], layout: &Layout, table: Table, n: usize) -> Option<&'a [u8]>
+    ensures { λ r. ⌜ BySome r (extent-in (now (layout .entry)) table .count ≤ n) (λ s. (n < extent-in (now (layout .entry)) table .count) × (now s ≡ record-part (size-of table) (now (bytes .entry)) (extent-in (now (layout .entry)) table) n)) ⌝ }
 {
-    if n < table.count as usize {
-        Some(part_at(bytes, table.start as usize + size * n, size))
+    let extent = layout.extent(table);
+    if n < extent.count as usize {
+        let size = table.record_size();
+        Some(part_at(bytes, extent.start as usize + size * n, size))
     } else {
         None
     }
 }
 
 // Record `n` of a table.
-fn nth_record<R: PackedRecord>(bytes: &[u8], table: Extent, size: usize, n: usize) -> Option<R>
-    requires { ⌜ size ≤ 24 ⌝ }
-    ensures { λ r. ⌜ r ≡ nth (table-of (R·PackedRecord .of) size (now (bytes .entry)) table) n ⌝ }
+fn nth_record<R: PackedRecord>(bytes: &[u8], layout: &Layout, table: Table, n: usize) -> Option<R>
+    ensures { λ r. ⌜ r ≡ nth (table-of (R·PackedRecord .of) (size-of table) (now (bytes .entry)) (extent-in (now (layout .entry)) table)) n ⌝ }
 {
-    match record_part(bytes, table, size, n) {
+    match record_part(bytes, layout, table, n) {
         Some(part) => Some(R::read(part)),
         None => None,
     }
 }
 
 // The bytes of name `n`.
-fn name_part(bytes: &[u8], layout: Layout, n: usize) -> Option<&[u8]>
-    ensures { λ r. ⌜ BySome r (layout .names .count ≤ n) (λ s. (n < layout .names .count) × (now s ≡ name-in (text-of (now (bytes .entry)) (layout .text)) (record-part 6 (now (bytes .entry)) (layout .names) n))) ⌝ }
+fn name_part<'a>(bytes: &'a [u8], layout: &Layout, n: usize) -> Option<&'a [u8]>
+    ensures { λ r. ⌜ BySome r (now (layout .entry) .names .count ≤ n) (λ s. (n < now (layout .entry) .names .count) × (now s ≡ name-in (text-of (now (bytes .entry)) (now (layout .entry) .text)) (record-part 6 (now (bytes .entry)) (now (layout .entry) .names) n))) ⌝ }
 {
-    match record_part(bytes, layout.names, 6, n) {
+    match record_part(bytes, layout, Table::Names, n) {
         Some(part) => {
             let text = part_at(
                 bytes,
@@ -144,44 +144,44 @@ pub impl<'a> Component for Packed<'a> as PackedComponent {
     }
 
     fn name_length(&self, n: usize) -> Option<usize> {
-        match name_part(self.bytes, self.layout, n) {
+        match name_part(self.bytes, &self.layout, n) {
             Some(name) => Some(name.len()),
             None => None,
         }
     }
 
     fn name_byte(&self, n: usize, i: usize) -> Option<u8> {
-        match name_part(self.bytes, self.layout, n) {
+        match name_part(self.bytes, &self.layout, n) {
             Some(name) => pick(name, i),
             None => None,
         }
     }
 
     fn value(&self, n: usize) -> Option<Value> {
-        nth_record::<PackedValue>(self.bytes, self.layout.values, 16, n)
+        nth_record::<PackedValue>(self.bytes, &self.layout, Table::Values, n)
     }
 
     fn function(&self, n: usize) -> Option<Function> {
-        nth_record::<PackedFunction>(self.bytes, self.layout.functions, 10, n)
+        nth_record::<PackedFunction>(self.bytes, &self.layout, Table::Functions, n)
     }
 
     fn block(&self, n: usize) -> Option<Block> {
-        nth_record::<PackedBlock>(self.bytes, self.layout.blocks, 20, n)
+        nth_record::<PackedBlock>(self.bytes, &self.layout, Table::Blocks, n)
     }
 
     fn predecessor(&self, n: usize) -> Option<Predecessor> {
-        nth_record::<PackedPredecessor>(self.bytes, self.layout.predecessors, 4, n)
+        nth_record::<PackedPredecessor>(self.bytes, &self.layout, Table::Predecessors, n)
     }
 
     fn phi(&self, n: usize) -> Option<Phi> {
-        nth_record::<PackedPhi>(self.bytes, self.layout.phis, 8, n)
+        nth_record::<PackedPhi>(self.bytes, &self.layout, Table::Phis, n)
     }
 
     fn instruction(&self, n: usize) -> Option<Instruction> {
-        nth_record::<PackedInstruction>(self.bytes, self.layout.instructions, 24, n)
+        nth_record::<PackedInstruction>(self.bytes, &self.layout, Table::Instructions, n)
     }
 
     fn mention(&self, n: usize) -> Option<Mention> {
-        nth_record::<PackedMention>(self.bytes, self.layout.mentions, 18, n)
+        nth_record::<PackedMention>(self.bytes, &self.layout, Table::Mentions, n)
     }
 }
