@@ -82,9 +82,8 @@ pub impl PackedRecord for Predecessor as PackedPredecessor {
     ghost of = { predecessor-of };
 
     fn read(part: &[u8]) -> Predecessor {
-        Predecessor {
-            id: read16(part, 2),
-        }
+        let id = read16(part, 2);
+        Predecessor { id }
     }
 }
 

@@ -2,6 +2,7 @@
 -- records, then the text behind its mark.
 use mathlib.Core.List.{List}
 use Prim.Native.Nat.{ℕ, _+_, _*_}
+use Rattle.component.specs.declared.records.Sizes.{Sizes}
 use Rattle.fields.specs.Fields.{le16}
 use Rattle.layout.specs.declared.Extent.{Extent}
 use Rattle.layout.specs.declared.Layout.{Layout}
@@ -76,6 +77,19 @@ extent-in l table.Predecessors = l .predecessors
 extent-in l table.Phis = l .phis
 extent-in l table.Instructions = l .instructions
 extent-in l table.Mentions = l .mentions
+
+-- how many records each table has
+abbrev pub sizes-in : Layout → Sizes
+sizes-in l = record {
+  names = l .names .count;
+  values = l .values .count;
+  functions = l .functions .count;
+  blocks = l .blocks .count;
+  predecessors = l .predecessors .count;
+  phis = l .phis .count;
+  instructions = l .instructions .count;
+  mentions = l .mentions .count;
+}
 
 -- the byte at which record `i` of a table begins
 abbrev pub record-at : Table → Extent → ℕ → ℕ

@@ -1,10 +1,11 @@
 // Where the tables of a packed file stand, and what makes bytes a packed file.
 ghost use mathlib.Core.Path.{_≡_};
 ghost use Prim.Native.Nat.{_+_, _≤_};
-ghost use Rattle.layout.specs.Layout.{layout-of, size-of, extent-in};
+ghost use Rattle.layout.specs.Layout.{layout-of, size-of, sizes-in, extent-in};
 
 pub mod checks;
 
+use component::records::Sizes;
 use fields::read16;
 
 // The longest that a packed file can be: every table and the text at 65,535.
@@ -63,6 +64,22 @@ pub struct Layout {
 }
 
 impl Layout {
+    // How many records each table has.
+    pub fn sizes(&self) -> Sizes
+        ensures { λ r. ⌜ r ≡ sizes-in (now (self .entry)) ⌝ }
+    {
+        Sizes {
+            names: self.names.count as usize,
+            values: self.values.count as usize,
+            functions: self.functions.count as usize,
+            blocks: self.blocks.count as usize,
+            predecessors: self.predecessors.count as usize,
+            phis: self.phis.count as usize,
+            instructions: self.instructions.count as usize,
+            mentions: self.mentions.count as usize,
+        }
+    }
+
     pub fn extent(&self, table: Table) -> Extent
         ensures { λ r. ⌜ r ≡ extent-in (now (self .entry)) table ⌝ }
     {

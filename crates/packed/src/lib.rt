@@ -131,16 +131,7 @@ pub impl<'a> Component for Packed<'a> as PackedComponent {
     }
 
     fn sizes(&self) -> Sizes {
-        Sizes {
-            names: self.layout.names.count as usize,
-            values: self.layout.values.count as usize,
-            functions: self.layout.functions.count as usize,
-            blocks: self.layout.blocks.count as usize,
-            predecessors: self.layout.predecessors.count as usize,
-            phis: self.layout.phis.count as usize,
-            instructions: self.layout.instructions.count as usize,
-            mentions: self.layout.mentions.count as usize,
-        }
+        self.layout.sizes()
     }
 
     fn name_length(&self, n: usize) -> Option<usize> {
