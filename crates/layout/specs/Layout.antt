@@ -6,8 +6,31 @@ use Rattle.component.specs.declared.records.Sizes.{Sizes}
 use Rattle.fields.specs.Fields.{le16}
 use Rattle.layout.specs.declared.Extent.{Extent}
 use Rattle.layout.specs.declared.Layout.{Layout}
+use Rattle.layout.specs.declared.Mark.{Mark}
 use Rattle.layout.specs.declared.Table.{Table}
 use Rattle.layout.specs.declared.Table.the-variants as table
+
+-- two letters, as their bytes
+abbrev pub letters : ℕ → ℕ → Mark
+letters a b = record { first = a; second = b }
+
+abbrev pub mark-of : Table → Mark
+mark-of table.Names = letters 78 77
+mark-of table.Values = letters 86 65
+mark-of table.Functions = letters 70 78
+mark-of table.Blocks = letters 66 76
+mark-of table.Predecessors = letters 80 82
+mark-of table.Phis = letters 80 72
+mark-of table.Instructions = letters 73 78
+mark-of table.Mentions = letters 77 69
+
+-- `PC`
+abbrev pub header-mark : Mark
+header-mark = letters 80 67
+
+-- `TX`
+abbrev pub text-mark : Mark
+text-mark = letters 84 88
 
 -- the header: `PC`, eight table sizes, text length, kind
 abbrev pub names-at : List ℕ → ℕ

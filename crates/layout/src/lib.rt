@@ -1,15 +1,35 @@
-// Where the tables of a packed file stand, and what makes bytes a packed file.
+// The tables of a packed file: their marks, sizes and where they stand.
 ghost use mathlib.Core.Path.{_≡_};
 ghost use Prim.Native.Nat.{_+_, _≤_};
-ghost use Rattle.layout.specs.Layout.{layout-of, size-of, sizes-in, extent-in};
-
-pub mod checks;
-
+ghost use Rattle.layout.specs.Layout.{letters, mark-of, layout-of, size-of, sizes-in, extent-in};
 use component::records::Sizes;
 use fields::read16;
 
 // The longest that a packed file can be: every table and the text at 65,535.
 pub const MAX_LENGTH: usize = 7012269;
+
+// The two letters before a record.
+#[derive(Clone, Copy)]
+pub struct Mark {
+    pub first: u8,
+    pub second: u8,
+}
+
+const HEADER: Mark = Mark {
+    first: b'P',
+    second: b'C',
+};
+
+const TEXT: Mark = Mark {
+    first: b'T',
+    second: b'X',
+};
+
+pub fn letters(first: u8, second: u8) -> Mark
+    ensures { λ r. ⌜ r ≡ letters first second ⌝ }
+{
+    Mark { first, second }
+}
 
 // The tables, in the order in which a file has them.
 #[derive(Clone, Copy)]
@@ -25,6 +45,21 @@ pub enum Table {
 }
 
 impl Table {
+    pub fn mark(self) -> Mark
+        ensures { λ r. ⌜ r ≡ mark-of self ⌝ }
+    {
+        match self {
+            Table::Names => letters(b'N', b'M'),
+            Table::Values => letters(b'V', b'A'),
+            Table::Functions => letters(b'F', b'N'),
+            Table::Blocks => letters(b'B', b'L'),
+            Table::Predecessors => letters(b'P', b'R'),
+            Table::Phis => letters(b'P', b'H'),
+            Table::Instructions => letters(b'I', b'N'),
+            Table::Mentions => letters(b'M', b'E'),
+        }
+    }
+
     // How many bytes a record has, with its mark.
     pub fn record_size(self) -> usize
         ensures { λ r. ⌜ r ≡ size-of self ⌝ }

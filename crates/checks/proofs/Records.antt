@@ -2,11 +2,11 @@
 use mathlib.Core.Path.{_≡_, ap, _∙_}
 use mathlib.Core.List.{List}
 use Prim.Native.Nat.{ℕ, _+_, _*_}
 use Rattle.layout.specs.declared.Extent.{Extent}
 use Rattle.layout.specs.declared.Table.{Table}
-use Rattle.layout.specs.declared.checks.Mark.{Mark}
-use Rattle.layout.specs.Layout.{size-of, record-at}
-use Rattle.layout.specs.Faults.{mark-of, mark-fault, record-fault, mark-of-record, codes-of-record}
+use Rattle.layout.specs.declared.Mark.{Mark}
+use Rattle.layout.specs.Layout.{mark-of, size-of, record-at}
+use Rattle.checks.specs.Faults.{mark-fault, record-fault, mark-of-record, codes-of-record}
 
 module _ (t : Table) (bs : List ℕ) (e x : Extent) (size i : ℕ) (same : x ≡ e) (sized : size ≡ size-of t) where
   same-place : x .start + size * i ≡ record-at t e i

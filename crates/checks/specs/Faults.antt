@@ -16,12 +16,12 @@ use Rattle.component.specs.Refusals.{firstIn}
 use Rattle.component.specs.declared.fault.Fault.{Fault}
 use Rattle.component.specs.declared.fault.Reason.the-variants.{FileLength, RecordMark, FieldCode}
 use Rattle.fields.specs.Fields.{le16}
 use Rattle.layout.specs.declared.Extent.{Extent}
 use Rattle.layout.specs.declared.Layout.{Layout}
 use Rattle.layout.specs.declared.Table.{Table}
 use Rattle.layout.specs.declared.Table.the-variants as table
-use Rattle.layout.specs.declared.checks.Mark.{Mark}
-use Rattle.layout.specs.Layout.{layout-of, end-of, size-of, extent-in, record-at}
+use Rattle.layout.specs.declared.Mark.{Mark}
+use Rattle.layout.specs.Layout.{header-mark, text-mark, mark-of, layout-of, end-of, extent-in, record-at}
 
 -- the place of a wrong length is the first byte that is missing or over; a
 -- file without a whole header misses its next byte
@@ -29,28 +29,6 @@ abbrev pub length-fault : List ℕ → Option Fault
 length-fault bs =
     cond (ltb (length bs) 22) (Some (record { reason = FileLength; place = length bs }))
     (cond (eqb (length bs) (end-of bs)) None (Some (record { reason = FileLength; place = min (length bs) (end-of bs) })))
-
--- two letters, as their bytes
-abbrev pub letters : ℕ → ℕ → Mark
-letters a b = record { first = a; second = b }
-
-abbrev pub mark-of : Table → Mark
-mark-of table.Names = letters 78 77
-mark-of table.Values = letters 86 65
-mark-of table.Functions = letters 70 78
-mark-of table.Blocks = letters 66 76
-mark-of table.Predecessors = letters 80 82
-mark-of table.Phis = letters 80 72
-mark-of table.Instructions = letters 73 78
-mark-of table.Mentions = letters 77 69
-
--- `PC`
-abbrev pub header-mark : Mark
-header-mark = letters 80 67
-
--- `TX`
-abbrev pub text-mark : Mark
-text-mark = letters 84 88
 
 abbrev pub mark-fault : List ℕ → ℕ → Mark → Option Fault
 mark-fault bs at m =

@@ -1,59 +1,21 @@
-// What opening a packed file checks: its length, then every mark, then every
+// What makes bytes a packed file: its length, then every mark, then every
 // code and where names end.
 ghost use mathlib.Core.Path.{_≡_};
 ghost use Prim.Native.Nat.{_+_, _^_, _<_};
 ghost use Rattle.std.specs.Options.{orOther};
 ghost use Rattle.std.specs.Results.{errPart};
 ghost use Rattle.std.specs.Vec.{made};
 ghost use Rattle.layout.specs.Layout.{layout-of, end-of, extent-in};
-ghost use Rattle.layout.specs.Faults.{Scanned, letters, mark-of, mark-fault, code-fault, name-fault, value-fault, mention-fault, record-fault, length-fault, marks-in, codes-in, marks-fault, codes-fault, fault-of};
-use crate::Layout;
-use crate::Table;
-use crate::read_layout;
+ghost use Rattle.checks.specs.Faults.{Scanned, mark-fault, code-fault, name-fault, value-fault, mention-fault, record-fault, length-fault, marks-in, codes-in, marks-fault, codes-fault, fault-of};
 use component::fault::Fault;
 use component::fault::Reason;
 use fields::byte_at;
 use fields::read16;
-
-// The two letters before a record.
-#[derive(Clone, Copy)]
-pub struct Mark {
-    pub first: u8,
-    pub second: u8,
-}
-
-const HEADER: Mark = Mark {
-    first: b'P',
-    second: b'C',
-};
-
-const TEXT: Mark = Mark {
-    first: b'T',
-    second: b'X',
-};
-
-fn letters(first: u8, second: u8) -> Mark
-    ensures { λ r. ⌜ r ≡ letters first second ⌝ }
-{
-    Mark { first, second }
-}
-
-impl Table {
-    pub fn mark(self) -> Mark
-        ensures { λ r. ⌜ r ≡ mark-of self ⌝ }
-    {
-        match self {
-            Table::Names => letters(b'N', b'M'),
-            Table::Values => letters(b'V', b'A'),
-            Table::Functions => letters(b'F', b'N'),
-            Table::Blocks => letters(b'B', b'L'),
-            Table::Predecessors => letters(b'P', b'R'),
-            Table::Phis => letters(b'P', b'H'),
-            Table::Instructions => letters(b'I', b'N'),
-            Table::Mentions => letters(b'M', b'E'),
-        }
-    }
-}
+use layout::Layout;
+use layout::Mark;
+use layout::Table;
+use layout::letters;
+use layout::read_layout;
 
 // A file has a whole header, and ends at `end`.
 fn check_length(bytes: &[u8], end: usize) -> Result<(), Fault>

@@ -5,11 +5,11 @@ use Rattle.std.specs.Options.{orOther}
 use Rattle.std.proofs.shelf.Results.{err-from-errBy}
 use Rattle.component.specs.Refusals.{firstIn}
 use Rattle.component.proofs.Firsts.{firstIn-more, firstIn-none, firstIn-hit, orOther-assoc}
 use Rattle.layout.specs.declared.Extent.{Extent}
 use Rattle.layout.specs.Layout.{extent-in}
-use Rattle.layout.specs.Faults.{mark-of-record, codes-of-record}
-use Rattle.layout.proofs.Records.{mark-at-record, codes-at-record}
-use Rattle.layout.proofs.checks.check_table.Needs as need
+use Rattle.checks.specs.Faults.{mark-of-record, codes-of-record}
+use Rattle.checks.proofs.Records.{mark-at-record, codes-at-record}
+use Rattle.checks.proofs.check_table.Needs as need
 
 pub returns-in-Break-check-mark : need.returns-in-Break-check-mark
 returns-in-Break-check-mark c =
