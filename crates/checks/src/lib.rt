@@ -121,6 +121,23 @@ fn check_record(table: Table, bytes: &[u8], text: u16, at: usize) -> Result<(), 
     }
 }
 
+// The fault found earlier, or else the first wrong code of the record at `at`.
+fn first_wrong(
+    found: Option<Fault>,
+    table: Table,
+    bytes: &[u8],
+    text: u16,
+    at: usize,
+) -> Option<Fault>
+    requires { ⌜ at + 18 < 2 ^ 64 ⌝ }
+    ensures { λ r. ⌜ r ≡ orOther found (record-fault table (now (bytes .entry)) text at) ⌝ }
+{
+    match found {
+        Some(fault) => Some(fault),
+        None => check_record(table, bytes, text, at).err(),
+    }
+}
+
 // One run over a table: a wrong mark is refused at once, and the first wrong
 // code is handed on behind `earlier`, since a wrong mark further on comes
 // before it.
@@ -139,7 +156,7 @@ fn check_table(
     for i in 0..extent.count {
         let at = extent.start as usize + size * i as usize;
         check_mark(bytes, at, mark)?;
-        found = found.or(check_record(table, bytes, layout.text.count, at).err());
+        found = first_wrong(found, table, bytes, layout.text.count, at);
     }
     Ok(found)
 }

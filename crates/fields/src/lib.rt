@@ -29,12 +29,17 @@ pub fn part_at(bytes: &[u8], at: usize, size: usize) -> &[u8]
     &bytes[from..to]
 }
 
-// The two-byte field at `at`, low byte first.
+// The two-byte field at `at`, low byte first. Both bytes are tested at once
+// where both are there.
 pub fn read16(part: &[u8], at: usize) -> u16
     requires { ⌜ at + 2 < 2 ^ 64 ⌝ }
     ensures { λ r. ⌜ r ≡ le16 (now (part .entry)) at ⌝ }
 {
-    byte_at(part, at) as u16 + 256 * byte_at(part, at + 1) as u16
+    if at + 1 < part.len() {
+        part[at] as u16 + 256 * part[at + 1] as u16
+    } else {
+        byte_at(part, at) as u16 + 256 * byte_at(part, at + 1) as u16
+    }
 }
 
 // The four-byte field at `at`, low byte first.

@@ -1,5 +1,5 @@
 use mathlib.Core.Path.{_≡_, sym, ap, _∙_}
-use Prim.Native.Nat.{_<_}
+use Prim.Native.Nat.{_+_, _*_, _<_}
 use native.Mathlib.Omega.{arith}
 use Rattle.std.specs.Options.{orOther}
 use Rattle.std.proofs.shelf.Results.{err-from-errBy}
@@ -7,7 +7,7 @@ use Rattle.component.specs.Refusals.{firstIn}
 use Rattle.component.proofs.Firsts.{firstIn-more, firstIn-none, firstIn-hit, orOther-assoc}
 use Rattle.layout.specs.declared.Extent.{Extent}
 use Rattle.layout.specs.Layout.{extent-in}
-use Rattle.checks.specs.Faults.{mark-of-record, codes-of-record}
+use Rattle.checks.specs.Faults.{record-fault, mark-of-record, codes-of-record}
 use Rattle.checks.proofs.Records.{mark-at-record, codes-at-record}
 use Rattle.checks.proofs.check_table.Needs as need
 
@@ -34,9 +34,9 @@ loop-i-again c =
     let d = codes-at-record t bs e _ _ i (c .extent-extent .ensures) (c .record-size-size .ensures) n in
     let f = codes-of-record t bs n e in (
       firstIn-none (mark-of-record t bs e) i (c .loop-i .inv .0) (sym m ∙ sym (c .in-Continue-check-mark .ensures tt)),
-      c .or-found .ensures
-          ∙ ap (λ o. orOther o (c .err .result)) (c .loop-i .inv .1)
-          ∙ ap (orOther (orOther (c .args .earlier) (firstIn f i))) (c .err .ensures .value ∙ c .check-record .ensures ∙ d)
+      c .first-wrong-found .ensures
+          ∙ ap (λ o. orOther o (record-fault t bs n (c .extent-extent .result .start + c .record-size-size .result * i))) (c .loop-i .inv .1)
+          ∙ ap (orOther (orOther (c .args .earlier) (firstIn f i))) d
           ∙ orOther-assoc (c .args .earlier) (firstIn f i) (f i)
           ∙ ap (orOther (c .args .earlier)) (sym (firstIn-more f i)),
     )
