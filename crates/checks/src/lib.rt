@@ -121,20 +121,14 @@ fn check_record(table: Table, bytes: &[u8], text: u16, at: usize) -> Result<(), 
     }
 }
 
-// The fault found earlier, or else the first wrong code of the record at `at`.
-fn first_wrong(
-    found: Option<Fault>,
-    table: Table,
-    bytes: &[u8],
-    text: u16,
-    at: usize,
-) -> Option<Fault>
+// Notes the first wrong code of the record at `at`, unless a fault was found
+// earlier.
+fn note_wrong(found: &mut Option<Fault>, table: Table, bytes: &[u8], text: u16, at: usize)
     requires { ⌜ at + 18 < 2 ^ 64 ⌝ }
-    ensures { λ r. ⌜ r ≡ orOther found (record-fault table (now (bytes .entry)) text at) ⌝ }
+    ensures { λ _. ⌜ now (found .exit) ≡ orOther (now (found .entry)) (record-fault table (now (bytes .entry)) text at) ⌝ }
 {
-    match found {
-        Some(fault) => Some(fault),
-        None => check_record(table, bytes, text, at).err(),
+    if let None = found {
+        *found = check_record(table, bytes, text, at).err();
     }
 }
 
@@ -156,7 +150,7 @@ fn check_table(
     for i in 0..extent.count {
         let at = extent.start as usize + size * i as usize;
         check_mark(bytes, at, mark)?;
-        found = first_wrong(found, table, bytes, layout.text.count, at);
+        note_wrong(&mut found, table, bytes, layout.text.count, at);
     }
     Ok(found)
 }

@@ -34,7 +34,7 @@ loop-i-again c =
     let d = codes-at-record t bs e _ _ i (c .extent-extent .ensures) (c .record-size-size .ensures) n in
     let f = codes-of-record t bs n e in (
       firstIn-none (mark-of-record t bs e) i (c .loop-i .inv .0) (sym m ∙ sym (c .in-Continue-check-mark .ensures tt)),
-      c .first-wrong-found .ensures
+      c .note-wrong .ensures
           ∙ ap (λ o. orOther o (record-fault t bs n (c .extent-extent .result .start + c .record-size-size .result * i))) (c .loop-i .inv .1)
           ∙ ap (orOther (orOther (c .args .earlier) (firstIn f i))) d
           ∙ orOther-assoc (c .args .earlier) (firstIn f i) (f i)
