@@ -20,6 +20,11 @@ use Rattle.component.specs.declared.records.Place.{Place}
 use Rattle.component.specs.declared.records.Mention.{Mention}
 use Rattle.component.specs.declared.records.Mention.the-variants as mention
 
+-- the number that a coded case begins with
+abbrev pub number : List ℕ → ℕ
+number [] = 0
+number (n ∷ _) = n
+
 abbrev pub function-code : ReactFunctionType → ℕ
 function-code function.Component = 0
 function-code function.Hook = 1

@@ -1,8 +1,8 @@
 // The enums out of their codes. Opening a file refuses a code past the last
 // one; where none was refused, a code past the last reads as the last.
 ghost use mathlib.Core.Path.{_≡_};
-ghost use Prim.Native.Nat.{_<_, _≤_};
-ghost use Rattle.component.specs.Codes.{function-code, type-code, effect-code};
+ghost use Prim.Native.Nat.{_<_};
+ghost use Rattle.component.specs.Codes.{number, function-code, type-code, effect-code, name-code};
 ghost use Rattle.fields.specs.Fields.{function-of, type-of, effect-of, name-of};
 use component::records::Effect;
 use component::records::IdentifierName;
@@ -21,7 +21,8 @@ pub fn function_type(code: u16) -> ReactFunctionType
 }
 
 pub fn identifier_name(code: u16, name: u16) -> IdentifierName
-    ensures { λ r. ⌜ r ≡ name-of code name ⌝ }
+    ensures value { λ r. ⌜ r ≡ name-of code name ⌝ }
+    ensures coded { λ r. ⌜ (code < 3 → number (name-code r) ≡ code) ⌝ }
 {
     match code {
         0 => IdentifierName::Unnamed,

@@ -1,7 +1,9 @@
 // Each record out of its part.
 ghost use mathlib.Core.Path.{_≡_};
 ghost use mathlib.Core.List.{List};
-ghost use Prim.Native.Nat.{ℕ};
+ghost use Prim.Native.Nat.{ℕ, _<_};
+ghost use Rattle.component.specs.Codes.{number, instruction-code, return-code, span-code, mention-code};
+ghost use Rattle.fields.specs.Fields.{le16};
 ghost use Rattle.fields.specs.Records.{value-of, function-at, block-of, returned-of, predecessor-of, phi-of, instruction-value-of, instruction-of, span-of, place-of, mention-of};
 use crate::codes;
 use crate::read_run;
@@ -55,7 +57,8 @@ pub impl PackedRecord for Function as PackedFunction {
 
 // The value of an explicit return, where there is one.
 fn read_returned(part: &[u8]) -> Option<u16>
-    ensures { λ r. ⌜ r ≡ returned-of (now (part .entry)) ⌝ }
+    ensures value { λ r. ⌜ r ≡ returned-of (now (part .entry)) ⌝ }
+    ensures coded { λ r. ⌜ (le16 (now (part .entry)) 16 < 2 → number (return-code r) ≡ le16 (now (part .entry)) 16) ⌝ }
 {
     if read16(part, 16) == 0 {
         None
@@ -100,7 +103,8 @@ pub impl PackedRecord for Phi as PackedPhi {
 
 // The kind of an instruction, with the fields that this kind has.
 fn read_instruction_value(part: &[u8]) -> InstructionValue
-    ensures { λ r. ⌜ r ≡ instruction-value-of (now (part .entry)) ⌝ }
+    ensures value { λ r. ⌜ r ≡ instruction-value-of (now (part .entry)) ⌝ }
+    ensures coded { λ r. ⌜ (le16 (now (part .entry)) 2 < 7 → number (instruction-code r) ≡ le16 (now (part .entry)) 2) ⌝ }
 {
     match read16(part, 2) {
         0 => InstructionValue::Other,
@@ -127,7 +131,8 @@ pub impl PackedRecord for Instruction as PackedInstruction {
 }
 
 fn read_span(part: &[u8]) -> Option<Span>
-    ensures { λ r. ⌜ r ≡ span-of (now (part .entry)) ⌝ }
+    ensures value { λ r. ⌜ r ≡ span-of (now (part .entry)) ⌝ }
+    ensures coded { λ r. ⌜ (le16 (now (part .entry)) 8 < 2 → number (span-code r) ≡ le16 (now (part .entry)) 8) ⌝ }
 {
     if read16(part, 8) == 0 {
         None
@@ -149,14 +154,21 @@ fn read_place(part: &[u8]) -> Place
     }
 }
 
+fn read_mention(part: &[u8]) -> Mention
+    ensures value { λ r. ⌜ r ≡ mention-of (now (part .entry)) ⌝ }
+    ensures coded { λ r. ⌜ (le16 (now (part .entry)) 4 < 3 → number (mention-code r) ≡ le16 (now (part .entry)) 4) ⌝ }
+{
+    match read16(part, 4) {
+        0 => Mention::Place(read_place(part)),
+        1 => Mention::Spread(read_place(part)),
+        _ => Mention::Hole,
+    }
+}
+
 pub impl PackedRecord for Mention as PackedMention {
     ghost of = { mention-of };
 
     fn read(part: &[u8]) -> Mention {
-        match read16(part, 4) {
-            0 => Mention::Place(read_place(part)),
-            1 => Mention::Spread(read_place(part)),
-            _ => Mention::Hole,
-        }
+        read_mention(part)
     }
 }

@@ -7,8 +7,12 @@
 //   cut N        keeps the first N bytes
 //   grow N       appends N zeros
 //   open         prints the title with the refusal, or with the table sizes
+//   list         prints the listing of a file that opens
 use assemble::error::BuildErrorError;
 use component::fault::Fault;
+use listing::Text;
+use listing::push_head;
+use listing::push_next;
 use packed::Packed;
 use packed::PackedComponent;
 use panelsource::source::parse_source;
@@ -49,6 +53,7 @@ impl Cases {
             "cut" => self.file.truncate(rest.parse::<usize>()?),
             "grow" => self.grow(rest.parse::<usize>()?)?,
             "open" => self.print_outcome(rt)?,
+            "list" => self.print_listing(rt)?,
             _ => return Err("no such command".into()),
         }
         Ok(())
@@ -110,6 +115,17 @@ impl Cases {
                 println!(rt, "{title}: refused {number} at {place}")?;
             }
         }
+        Ok(())
+    }
+
+    fn print_listing(&self, rt: &LibcRuntime) -> Result<(), AnyError> {
+        let Ok(packed) = Packed::open(self.file.as_slice()) else {
+            return Err("nothing to list".into());
+        };
+        let mut text = Text::new(rt.alloc());
+        let mut cursor = push_head(&packed, &mut text);
+        while push_next(&packed, &mut cursor, &mut text) {}
+        print!(rt, "{}", text.written()?)?;
         Ok(())
     }
 }
