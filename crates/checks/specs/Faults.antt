@@ -77,22 +77,22 @@ marks-in bs l t = firstIn (mark-of-record t bs (extent-in l t)) (extent-in l t .
 abbrev pub codes-in : List ℕ → Layout → Table → Option Fault
 codes-in bs l t = firstIn (codes-of-record t bs (l .text .count) (extent-in l t)) (extent-in l t .count)
 
--- the first of the file, in file order; the text's mark stands behind the last
--- mention
+-- the first in file order: of the header, of each table, of the text
+abbrev pub in-file-order : Option Fault → (Table → Option Fault) → Option Fault → Option Fault
+in-file-order header of text =
+    orOther header
+    (orOther (of table.Names) (orOther (of table.Values) (orOther (of table.Functions) (orOther (of table.Blocks)
+    (orOther (of table.Predecessors) (orOther (of table.Phis) (orOther (of table.Instructions) (orOther (of table.Mentions) text))))))))
+
+-- the text's mark stands behind the last mention
 abbrev pub marks-fault : List ℕ → Layout → Option Fault
 marks-fault bs l =
-    orOther (mark-fault bs 0 header-mark)
-    (orOther (marks-in bs l table.Names) (orOther (marks-in bs l table.Values) (orOther (marks-in bs l table.Functions)
-    (orOther (marks-in bs l table.Blocks) (orOther (marks-in bs l table.Predecessors) (orOther (marks-in bs l table.Phis)
-    (orOther (marks-in bs l table.Instructions) (orOther (marks-in bs l table.Mentions)
-    (mark-fault bs (record-at table.Mentions (l .mentions) (l .mentions .count)) text-mark)))))))))
+    in-file-order (mark-fault bs 0 header-mark) (marks-in bs l)
+    (mark-fault bs (record-at table.Mentions (l .mentions) (l .mentions .count)) text-mark)
 
+-- the header's code is the kind of function 0; the text has none
 abbrev pub codes-fault : List ℕ → Layout → Option Fault
-codes-fault bs l =
-    orOther (code-fault bs 20 3)
-    (orOther (codes-in bs l table.Names) (orOther (codes-in bs l table.Values) (orOther (codes-in bs l table.Functions)
-    (orOther (codes-in bs l table.Blocks) (orOther (codes-in bs l table.Predecessors) (orOther (codes-in bs l table.Phis)
-    (orOther (codes-in bs l table.Instructions) (codes-in bs l table.Mentions))))))))
+codes-fault bs l = in-file-order (code-fault bs 20 3) (codes-in bs l) None
 
 -- why the bytes are no packed file; none where they are one
 abbrev pub fault-of : List ℕ → Option Fault

@@ -41,3 +41,17 @@ pub firstIn-same : {X : Type 0} (f g : ℕ → Option X) (n : ℕ) → ((i : ℕ
 firstIn-same f g zero h = refl
 firstIn-same f g (suc n) h =
     let rest = firstIn-same f g n (λ i l. h i (omega arith)) in let last = h n (omega arith) in cc
+
+-- none below n is each none
+pub firstIn-each : {X : Type 0} (f : ℕ → Option X) (n : ℕ) → firstIn f n ≡ None → (i : ℕ) → i < n → f i ≡ None
+firstIn-each f zero h i l = absurd (omega arith)
+firstIn-each f (suc n) h i l =
+    let both = orOther-none (firstIn f n) (f n) h in
+    elim (cases-eq i n) [
+      | inl q ↦ ap f q ∙ both .1
+      | inr q ↦ firstIn-each f n (both .0) i (omega arith)
+    ]
+
+pub firstIn-all : {X : Type 0} (f : ℕ → Option X) (n : ℕ) → ((i : ℕ) → i < n → f i ≡ None) → firstIn f n ≡ None
+firstIn-all f zero h = refl
+firstIn-all f (suc n) h = let rest = firstIn-all f n (λ i l. h i (omega arith)) in rw rest (h n (omega arith))

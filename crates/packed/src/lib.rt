@@ -10,6 +10,7 @@ ghost use Rattle.component.specs.Meaning.{Meaning};
 ghost use Rattle.fields.specs.Fields.{le16};
 ghost use Rattle.layout.specs.Layout.{extent-in, size-of};
 ghost use Rattle.checks.specs.Faults.{fault-of};
+ghost use Rattle.checks.specs.Files.{Accepted-exactly};
 ghost use Rattle.packed.specs.Decoding.{record-part, table-of, name-in, text-of, meaning-at, decoded};
 ghost use Rattle.packed.specs.Laws.{Unused-not-read, Overlong-by-header};
 use checks::check_file;
@@ -81,9 +82,10 @@ fn name_part<'a>(bytes: &'a [u8], layout: &Layout, n: usize) -> Option<&'a [u8]>
     }
 }
 
-// What holds of every file; nothing comes of it but these laws. The second
-// rests on the longest end that a header can give.
+// What holds of every file; nothing comes of it but these laws. The last rests
+// on the longest end that a header can give.
 fn file_laws(bytes: &[u8])
+    ensures accepted { λ _. ⌜ Accepted-exactly (now (bytes .entry)) ⌝ }
     ensures unused { λ _. ⌜ Unused-not-read (now (bytes .entry)) ⌝ }
     ensures overlong { λ _. ⌜ Overlong-by-header (now (bytes .entry)) ⌝ }
 {
@@ -101,6 +103,7 @@ impl<'a> Packed<'a> {
     // The component of a packed file, or why the bytes are none.
     pub fn open(bytes: &'a [u8]) -> Result<Packed<'a>, Fault>
         ensures judged { λ r. ⌜ errPart r ≡ fault-of (now (bytes .entry)) ⌝ }
+        ensures accepted { λ _. ⌜ Accepted-exactly (now (bytes .entry)) ⌝ }
         ensures meaning { λ r. ⌜ made r (λ p. meaning-at (now (p .bytes)) (p .kind) (p .layout) ≡ decoded (now (bytes .entry))) ⌝ }
         ensures unused { λ _. ⌜ Unused-not-read (now (bytes .entry)) ⌝ }
         ensures overlong { λ _. ⌜ Overlong-by-header (now (bytes .entry)) ⌝ }
