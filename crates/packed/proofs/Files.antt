@@ -22,7 +22,8 @@ use Rattle.layout.specs.declared.Layout.{Layout}
 use Rattle.layout.specs.declared.Table.{Table}
 use Rattle.layout.specs.declared.Table.the-variants as table
 use Rattle.layout.specs.Layout.{layout-of, end-of, size-of, extent-in, record-at}
-use Rattle.checks.specs.Faults.{length-fault, mark-of-record, codes-of-record, marks-in, codes-in, marks-fault, codes-fault, fault-of}
+use Rattle.checks.specs.Faults.{length-fault}
+use Rattle.scan.specs.Faults.{mark-of-record, codes-of-record, marks-in, codes-in, marks-fault, codes-fault, fault-of}
 use Rattle.packed.specs.Decoding.{record-part, table-of, text-of, name-in, meaning-at, decoded}
 use Rattle.packed.specs.Unused.{SameButUnused, used, record-of}
 use Rattle.packed.proofs.Used.{Agree, same-name-record, same-value, same-function, same-block, same-predecessor, same-phi, same-instruction, same-mention}

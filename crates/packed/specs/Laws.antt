@@ -3,7 +3,7 @@ use mathlib.Core.Path.{_≡_}
 use mathlib.Core.List.{List}
 use Prim.Native.Nat.{ℕ, _<_}
 use lib.ListN.{getD, length}
-use Rattle.checks.specs.Faults.{fault-of}
+use Rattle.scan.specs.Faults.{fault-of}
 use Rattle.packed.specs.Decoding.{decoded}
 use Rattle.packed.specs.Unused.{SameButUnused}
 

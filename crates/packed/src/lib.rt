@@ -9,11 +9,10 @@ ghost use Rattle.std.specs.shelf.Maps.{nth};
 ghost use Rattle.component.specs.Meaning.{Meaning};
 ghost use Rattle.fields.specs.Fields.{le16};
 ghost use Rattle.layout.specs.Layout.{extent-in, size-of};
-ghost use Rattle.checks.specs.Faults.{fault-of};
-ghost use Rattle.checks.specs.Files.{Accepted-exactly};
+ghost use Rattle.scan.specs.Faults.{fault-of};
+ghost use Rattle.scan.specs.Files.{Accepted-exactly};
 ghost use Rattle.packed.specs.Decoding.{record-part, table-of, name-in, text-of, meaning-at, decoded};
 ghost use Rattle.packed.specs.Laws.{Unused-not-read, Overlong-by-header};
-use checks::check_file;
 use component::Component;
 use component::fault::Fault;
 use component::pick;
@@ -41,6 +40,7 @@ use layout::Layout;
 pub use layout::MAX_LENGTH;
 use layout::Table;
 use layout::read_layout;
+use scan::check_file;
 
 // The part of the bytes that record `n` of a table takes.
 fn record_part<'a>(bytes: &'a [u8], layout: &Layout, table: Table, n: usize) -> Option<&'a [u8]>

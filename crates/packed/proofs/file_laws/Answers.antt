@@ -3,7 +3,7 @@ use Prim.Native.Nat.{_+_, _≤_}
 use native.Mathlib.Omega.{arith}
 use Rattle.layout.specs.declared.Layout.{Layout}
 use Rattle.layout.specs.Layout.{end-of}
-use Rattle.checks.proofs.Accepts.{accepted-exactly}
+use Rattle.scan.proofs.Accepts.{accepted-exactly}
 use Rattle.packed.proofs.Files.{overlong, same-fault, same-meaning}
 use Rattle.packed.proofs.file_laws.Needs as need
 

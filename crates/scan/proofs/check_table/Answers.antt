@@ -7,9 +7,10 @@ use Rattle.component.specs.Refusals.{firstIn}
 use Rattle.component.proofs.Firsts.{firstIn-more, firstIn-none, firstIn-hit, orOther-assoc}
 use Rattle.layout.specs.declared.Extent.{Extent}
 use Rattle.layout.specs.Layout.{extent-in}
-use Rattle.checks.specs.Faults.{record-fault, mark-of-record, codes-of-record}
-use Rattle.checks.proofs.Records.{mark-at-record, codes-at-record}
-use Rattle.checks.proofs.check_table.Needs as need
+use Rattle.checks.specs.Faults.{record-fault}
+use Rattle.scan.specs.Faults.{mark-of-record, codes-of-record}
+use Rattle.scan.proofs.Records.{mark-at-record, codes-at-record}
+use Rattle.scan.proofs.check_table.Needs as need
 
 pub returns-in-Break-check-mark : need.returns-in-Break-check-mark
 returns-in-Break-check-mark c =

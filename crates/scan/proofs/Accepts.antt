@@ -18,8 +18,9 @@ use Rattle.layout.specs.declared.Mark.{Mark}
 use Rattle.layout.specs.declared.Table.{Table}
 use Rattle.layout.specs.declared.Table.the-variants as table
 use Rattle.layout.specs.Layout.{header-mark, text-mark, mark-of, layout-of, end-of, extent-in, record-at}
-use Rattle.checks.specs.Faults.{mark-fault, code-fault, name-fault, value-fault, mention-fault, record-fault, mark-of-record, codes-of-record, marks-in, codes-in, in-file-order, marks-fault, codes-fault, length-fault, fault-of}
-use Rattle.checks.specs.Files.{Marked, Coded, PackedFile, Accepted-exactly, place-of}
+use Rattle.checks.specs.Faults.{mark-fault, code-fault, name-fault, value-fault, mention-fault, record-fault, length-fault}
+use Rattle.scan.specs.Faults.{mark-of-record, codes-of-record, marks-in, codes-in, in-file-order, marks-fault, codes-fault, fault-of}
+use Rattle.scan.specs.Files.{Marked, Coded, PackedFile, Accepted-exactly, place-of}
 
 -- a test that gives no fault was true
 passed : (b : Bool) (f : Fault) → cond b None (Some f) ≡ None → b ≡ true

@@ -6,7 +6,8 @@ use Rattle.layout.specs.declared.Extent.{Extent}
 use Rattle.layout.specs.declared.Table.{Table}
 use Rattle.layout.specs.declared.Mark.{Mark}
 use Rattle.layout.specs.Layout.{mark-of, size-of, record-at}
-use Rattle.checks.specs.Faults.{mark-fault, record-fault, mark-of-record, codes-of-record}
+use Rattle.checks.specs.Faults.{mark-fault, record-fault}
+use Rattle.scan.specs.Faults.{mark-of-record, codes-of-record}
 
 module _ (t : Table) (bs : List ℕ) (e x : Extent) (size i : ℕ) (same : x ≡ e) (sized : size ≡ size-of t) where
   same-place : x .start + size * i ≡ record-at t e i

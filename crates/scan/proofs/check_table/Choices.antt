@@ -2,9 +2,9 @@ use mathlib.Core.Path.{_≡_}
 use Rattle.std.specs.Options.{orOther}
 use Rattle.std.specs.declared.option.Option.the-variants.{None}
 use Rattle.component.specs.Refusals.{firstIn}
-use Rattle.checks.specs.Faults.{mark-of-record, codes-of-record}
+use Rattle.scan.specs.Faults.{mark-of-record, codes-of-record}
 use Rattle.layout.specs.Layout.{extent-in}
-use Rattle.checks.proofs.check_table.Given as given
+use Rattle.scan.proofs.check_table.Given as given
 
 -- no wrong mark so far, and the first wrong code so far
 abbrev pub Inv-loop-i : given.InvT-loop-i

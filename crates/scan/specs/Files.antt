@@ -9,7 +9,7 @@ use Rattle.layout.specs.declared.Mark.{Mark}
 use Rattle.layout.specs.declared.Table.{Table}
 use Rattle.layout.specs.declared.Table.the-variants as table
 use Rattle.layout.specs.Layout.{header-mark, text-mark, mark-of, layout-of, end-of, extent-in, record-at}
-use Rattle.checks.specs.Faults.{fault-of}
+use Rattle.scan.specs.Faults.{fault-of}
 
 -- a mark stands at a byte
 abbrev pub Marked : List ℕ → ℕ → Mark → Type 0
