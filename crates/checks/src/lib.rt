@@ -69,7 +69,8 @@ fn check_name(bytes: &[u8], text: u16, at: usize) -> Result<(), Fault>
     requires { ⌜ at + 6 < 2 ^ 64 ⌝ }
     ensures { λ r. ⌜ errPart r ≡ name-fault (now (bytes .entry)) text at ⌝ }
 {
-    if read16(bytes, at + 2) as usize + read16(bytes, at + 4) as usize <= text as usize {
+    let end = read16(bytes, at + 2) as usize + read16(bytes, at + 4) as usize;
+    if end <= text as usize {
         Ok(())
     } else {
         Err(Fault {
