@@ -7,28 +7,32 @@
 // of the others come last, so each record is listed once. Of a list of
 // mentions or predecessors the first 32 entries are shown, and of a name the
 // first 64 bytes. `?7` is number 7 of a table that has no such record.
-mod cursor;
 mod lines;
 mod lists;
 mod names;
-mod progress;
 mod text;
 mod words;
 
 ghost use mathlib.Core.Path.{_≡_};
 ghost use mathlib.Core.Bool.{true, false};
 ghost use Prim.Native.Nat.{_<_, _≤_};
-ghost use Rattle.listing.specs.Left.{left, records-left};
+ghost use Rattle.std.specs.Options.{isSome};
+ghost use Rattle.component.specs.Meaning.{sizesOf};
+ghost use Rattle.cursor.specs.Left.{left, records-left};
+ghost use Rattle.cursor.specs.Lists.{after};
+ghost use Rattle.cursor.specs.Order.{line-at, Passed, No-record, First};
 use component::Component;
 use component::records::Block;
 use component::records::Function;
+pub use cursor::Cursor;
 use cursor::Line;
-pub use progress::Cursor;
 pub use text::Text;
 
 // Adds the lines that come before those of the records, and answers where
 // these begin.
-pub fn push_head<C: Component>(component: &C, text: &mut Text) -> Cursor {
+pub fn push_head<C: Component>(component: &C, text: &mut Text) -> Cursor
+    ensures { λ r. ⌜ First (sizesOf (C·Component .meaning (now (component .entry)))) r ⌝ }
+{
     text.push("kind ");
     text.push(words::kind_word(component.kind()));
     text.push("\n");
@@ -40,6 +44,8 @@ pub fn push_head<C: Component>(component: &C, text: &mut Text) -> Cursor {
 // Adds the line that comes next, of a record or a heading. Once every record
 // was listed it adds nothing, and answers false.
 pub fn push_next<C: Component>(component: &C, cursor: &mut Cursor, text: &mut Text) -> bool
+    ensures value { λ r. ⌜ r ≡ isSome (line-at (now (cursor .entry))) ⌝ }
+    ensures passed { λ _. ⌜ Passed (line-at (now (cursor .entry))) (now (cursor .entry)) (now (cursor .exit)) ⌝ }
     ensures more { λ r. ⌜ (r ≡ true → left (now (cursor .exit)) < left (now (cursor .entry))) ⌝ }
     ensures complete { λ r. ⌜ (r ≡ false → records-left (now (cursor .exit)) ≡ 0) ⌝ }
 {
@@ -53,7 +59,8 @@ pub fn push_next<C: Component>(component: &C, cursor: &mut Cursor, text: &mut Te
 }
 
 fn push_line<C: Component>(component: &C, line: Line, cursor: &mut Cursor, text: &mut Text)
-    ensures { λ _. ⌜ left (now (cursor .exit)) ≤ left (now (cursor .entry)) ⌝ }
+    ensures kept { λ _. ⌜ No-record (now (cursor .entry)) (now (cursor .exit)) ⌝ }
+    ensures less { λ _. ⌜ left (now (cursor .exit)) ≤ left (now (cursor .entry)) ⌝ }
 {
     match line {
         Line::Value(n) => {
@@ -93,7 +100,9 @@ fn push_function<C: Component>(
     cursor: &mut Cursor,
     text: &mut Text,
 )
-    ensures { λ _. ⌜ left (now (cursor .exit)) ≤ left (now (cursor .entry)) ⌝ }
+    ensures entered { λ _. ⌜ now (cursor .exit) .blocks .end ≡ after (function .blocks) (now (cursor .entry) .blocks .end) (now (cursor .entry) .blocks .size) ⌝ }
+    ensures kept { λ _. ⌜ No-record (now (cursor .entry)) (now (cursor .exit)) ⌝ }
+    ensures less { λ _. ⌜ left (now (cursor .exit)) ≤ left (now (cursor .entry)) ⌝ }
 {
     lines::push_function_start(component, n, function.params, text);
     if !cursor.blocks.enter(function.blocks) {
@@ -109,7 +118,10 @@ fn push_block<C: Component>(
     cursor: &mut Cursor,
     text: &mut Text,
 )
-    ensures { λ _. ⌜ left (now (cursor .exit)) ≤ left (now (cursor .entry)) ⌝ }
+    ensures phis { λ _. ⌜ now (cursor .exit) .phis .end ≡ after (block .phis) (now (cursor .entry) .phis .end) (now (cursor .entry) .phis .size) ⌝ }
+    ensures instructions { λ _. ⌜ now (cursor .exit) .instructions .end ≡ after (block .instructions) (now (cursor .entry) .instructions .end) (now (cursor .entry) .instructions .size) ⌝ }
+    ensures kept { λ _. ⌜ No-record (now (cursor .entry)) (now (cursor .exit)) ⌝ }
+    ensures less { λ _. ⌜ left (now (cursor .exit)) ≤ left (now (cursor .entry)) ⌝ }
 {
     lines::push_block_start(component, n, block, text);
     if !cursor.phis.enter(block.phis) {

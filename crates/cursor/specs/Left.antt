@@ -1,9 +1,9 @@
 -- What a cursor has left to list.
 use Prim.Native.Nat.{ℕ, _+_, _-_}
-use Rattle.listing.specs.declared.progress.Progress.{Progress}
-use Rattle.listing.specs.declared.progress.Cursor.{Cursor}
-use Rattle.listing.specs.declared.cursor.Line.{Line}
-use Rattle.listing.specs.declared.cursor.Line.the-variants as line
+use Rattle.cursor.specs.declared.progress.Progress.{Progress}
+use Rattle.cursor.specs.declared.progress.Cursor.{Cursor}
+use Rattle.cursor.specs.declared.Line.{Line}
+use Rattle.cursor.specs.declared.Line.the-variants as line
 use Rattle.component.specs.declared.records.Sizes.{Sizes}
 
 -- the records of a table that have not been listed

@@ -3,7 +3,7 @@ ghost use mathlib.Core.Path.{_≡_};
 ghost use Prim.Native.Nat.{_+_, _≤_};
 ghost use lib.Dec.{ltb};
 ghost use Rattle.std.specs.Options.{Cases as BySome, isSome};
-ghost use Rattle.listing.specs.Lists.{endOf, after};
+ghost use Rattle.cursor.specs.Lists.{endOf, after};
 use component::records::Run;
 
 // Records below `next` have been listed. The list whose turn it is ends at

@@ -1,11 +1,15 @@
-// The order of the lines of a listing.
+// The order of the lines of a listing: which record or heading comes next, so
+// that each record has one line, whatever a component's lists say.
+mod progress;
+
 ghost use mathlib.Core.Path.{_≡_};
 ghost use Prim.Native.Nat.{_+_, _<_};
 ghost use Rattle.std.specs.Options.{Cases as BySome};
-ghost use Rattle.listing.specs.Left.{left, records-left, unturned, listed, listed-of};
-use crate::progress::Cursor;
-use crate::progress::Progress;
+ghost use Rattle.cursor.specs.Left.{left, records-left, unturned, listed, listed-of};
+ghost use Rattle.cursor.specs.Order.{line-at, heading, Passed, Turned, First};
 use component::records::Sizes;
+pub use progress::Cursor;
+pub use progress::Progress;
 
 // A record by its number, or a heading.
 #[derive(Clone, Copy)]
@@ -21,7 +25,8 @@ pub enum Line {
 
 impl Cursor {
     pub fn new(sizes: Sizes) -> Cursor
-        ensures { λ r. ⌜ records-left r ≡ listed-of sizes ⌝ }
+        ensures first { λ r. ⌜ First sizes r ⌝ }
+        ensures all { λ r. ⌜ records-left r ≡ listed-of sizes ⌝ }
     {
         Cursor {
             values: Progress::new(sizes.values, sizes.values),
@@ -34,6 +39,9 @@ impl Cursor {
 
     // The line that comes next. There is none once every record was listed.
     pub fn advance(&mut self) -> Option<Line>
+        ensures which { λ r. ⌜ r ≡ line-at (now (self .entry)) ⌝ }
+        ensures passed { λ r. ⌜ Passed r (now (self .entry)) (now (self .exit)) ⌝ }
+        ensures turned { λ r. ⌜ Turned r (now (self .entry)) (now (self .exit)) ⌝ }
         ensures counted { λ r. ⌜ BySome r (records-left (now (self .entry)) ≡ 0) (λ l. records-left (now (self .exit)) + listed l ≡ records-left (now (self .entry))) ⌝ }
         ensures ends { λ r. ⌜ BySome r (records-left (now (self .exit)) ≡ 0) (λ _. left (now (self .exit)) < left (now (self .entry))) ⌝ }
     {
@@ -57,6 +65,9 @@ impl Cursor {
 
     // Headings for the records that stand in no list that had its turn.
     fn enter_rest(&mut self) -> Option<Line>
+        ensures which { λ r. ⌜ r ≡ heading (now (self .entry)) ⌝ }
+        ensures passed { λ r. ⌜ Passed r (now (self .entry)) (now (self .exit)) ⌝ }
+        ensures turned { λ r. ⌜ Turned r (now (self .entry)) (now (self .exit)) ⌝ }
         ensures counted { λ r. ⌜ BySome r (Unit {0}) (λ l. records-left (now (self .exit)) + listed l ≡ records-left (now (self .entry))) ⌝ }
         ensures ends { λ r. ⌜ BySome r ((unturned (now (self .entry)) ≡ 0) × (records-left (now (self .exit)) ≡ records-left (now (self .entry)))) (λ _. left (now (self .exit)) < left (now (self .entry))) ⌝ }
     {

@@ -1,0 +1,3 @@
+pub mod Lists
+pub mod Left
+pub mod Order
