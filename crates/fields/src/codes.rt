@@ -2,10 +2,9 @@
 // one; where none was refused, a code past the last reads as the last.
 ghost use mathlib.Core.Path.{_≡_};
 ghost use Prim.Native.Nat.{_<_};
-ghost use Rattle.component.specs.Codes.{number, function-code, type-code, effect-code, name-code};
-ghost use Rattle.fields.specs.Fields.{function-of, type-of, effect-of, name-of};
+ghost use Rattle.component.specs.Codes.{function-code, type-code, effect-code};
+ghost use Rattle.fields.specs.Fields.{function-of, type-of, effect-of};
 use component::records::Effect;
-use component::records::IdentifierName;
 use component::records::ReactFunctionType;
 use component::records::ValueType;
 
@@ -17,17 +16,6 @@ pub fn function_type(code: u16) -> ReactFunctionType
         0 => ReactFunctionType::Component,
         1 => ReactFunctionType::Hook,
         _ => ReactFunctionType::Other,
-    }
-}
-
-pub fn identifier_name(code: u16, name: u16) -> IdentifierName
-    ensures value { λ r. ⌜ r ≡ name-of code name ⌝ }
-    ensures coded { λ r. ⌜ (code < 3 → number (name-code r) ≡ code) ⌝ }
-{
-    match code {
-        0 => IdentifierName::Unnamed,
-        1 => IdentifierName::Named(name),
-        _ => IdentifierName::Promoted(name),
     }
 }
 

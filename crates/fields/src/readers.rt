@@ -2,8 +2,8 @@
 ghost use mathlib.Core.Path.{_≡_};
 ghost use mathlib.Core.List.{List};
 ghost use Prim.Native.Nat.{ℕ, _<_};
-ghost use Rattle.component.specs.Codes.{number, instruction-code, return-code, span-code, mention-code};
-ghost use Rattle.fields.specs.Fields.{le16};
+ghost use Rattle.component.specs.Codes.{number, name-code, instruction-code, return-code, span-code, mention-code};
+ghost use Rattle.fields.specs.Fields.{le16, name-of};
 ghost use Rattle.fields.specs.Records.{value-of, function-at, block-of, returned-of, predecessor-of, phi-of, instruction-value-of, instruction-of, span-of, place-of, mention-of};
 use crate::codes;
 use crate::read_run;
@@ -11,6 +11,7 @@ use crate::read16;
 use crate::read32;
 use component::records::Block;
 use component::records::Function;
+use component::records::IdentifierName;
 use component::records::Instruction;
 use component::records::InstructionValue;
 use component::records::Mention;
@@ -29,12 +30,24 @@ pub trait PackedRecord: Sized {
         ensures { λ r. ⌜ r ≡ of (now (part .entry)) ⌝ };
 }
 
+// A value's form, with its name where the form has one.
+fn read_name(part: &[u8]) -> IdentifierName
+    ensures value { λ r. ⌜ r ≡ name-of (le16 (now (part .entry)) 2) (le16 (now (part .entry)) 4) ⌝ }
+    ensures coded { λ r. ⌜ (le16 (now (part .entry)) 2 < 3 → number (name-code r) ≡ le16 (now (part .entry)) 2) ⌝ }
+{
+    match read16(part, 2) {
+        0 => IdentifierName::Unnamed,
+        1 => IdentifierName::Named(read16(part, 4)),
+        _ => IdentifierName::Promoted(read16(part, 4)),
+    }
+}
+
 pub impl PackedRecord for Value as PackedValue {
     ghost of = { value-of };
 
     fn read(part: &[u8]) -> Value {
         Value {
-            name: codes::identifier_name(read16(part, 2), read16(part, 4)),
+            name: read_name(part),
             kind: codes::value_type(read16(part, 6)),
             range: MutableRange {
                 start: read32(part, 8),

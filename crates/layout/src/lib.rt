@@ -6,7 +6,11 @@ use component::records::Sizes;
 use fields::read16;
 
 // The longest that a packed file can be: every table and the text at 65,535.
-pub const MAX_LENGTH: usize = 7012269;
+pub fn max_length() -> usize
+    ensures { λ r. ⌜ r ≡ 7012269 ⌝ }
+{
+    22 + 65535 * (6 + 16 + 10 + 20 + 4 + 8 + 24 + 18) + 2 + 65535
+}
 
 // The two letters before a record.
 #[derive(Clone, Copy)]
@@ -14,16 +18,6 @@ pub struct Mark {
     pub first: u8,
     pub second: u8,
 }
-
-const HEADER: Mark = Mark {
-    first: b'P',
-    second: b'C',
-};
-
-const TEXT: Mark = Mark {
-    first: b'T',
-    second: b'X',
-};
 
 pub fn letters(first: u8, second: u8) -> Mark
     ensures { λ r. ⌜ r ≡ letters first second ⌝ }

@@ -15,6 +15,8 @@ use Rattle.std.proofs.shelf.Counted.{length-map-counting, getD-map-counting}
 use Rattle.std.proofs.shelf.Lists.{ext-getD, getD-take, getD-drop, length-take, length-drop}
 use Rattle.std.proofs.shelf.Tests.{cases-bool, cases-eq, eq-eqb, le-ltb, ltb-false, ne-eqb}
 use Rattle.component.proofs.Firsts.{firstIn-same}
+use Rattle.std.specs.declared.option.Option.the-variants.{Some}
+use Rattle.component.specs.declared.fault.Reason.the-variants.{FileLength}
 use Rattle.fields.specs.Fields.{le16, function-of}
 use Rattle.fields.specs.Records.{value-of, function-at, block-of, predecessor-of, phi-of, instruction-of, mention-of}
 use Rattle.layout.specs.declared.Extent.{Extent}
@@ -24,6 +26,7 @@ use Rattle.layout.specs.declared.Table.the-variants as table
 use Rattle.layout.specs.Layout.{layout-of, end-of, size-of, extent-in, record-at}
 use Rattle.checks.specs.Faults.{length-fault}
 use Rattle.scan.specs.Faults.{mark-of-record, codes-of-record, marks-in, codes-in, marks-fault, codes-fault, fault-of}
+use Rattle.packed.specs.Laws.{Overlong-by-header}
 use Rattle.packed.specs.Decoding.{record-part, table-of, text-of, name-in, meaning-at, decoded}
 use Rattle.packed.specs.Unused.{SameButUnused, used, record-of}
 use Rattle.packed.proofs.Used.{Agree, same-name-record, same-value, same-function, same-block, same-predecessor, same-phi, same-instruction, same-mention}
@@ -38,6 +41,14 @@ same-tabled f g a (suc n) h =
 
 getD-part : (bs : List ℕ) (a n k : ℕ) → k < n → getD (between a (a + n) bs) k 0 ≡ getD bs (a + k) 0
 getD-part bs a n k h = let l : k < a + n - a = omega arith in getD-take (a + n - a) (drop a bs) k 0 l ∙ getD-drop a bs k 0
+
+-- a file longer than any packed file
+overlong : (bs : List ℕ) → end-of bs ≤ 7012269 → 7012269 < length bs → fault-of bs ≡ Some (record { reason = FileLength; place = end-of bs })
+overlong bs bound long =
+    let whole = le-ltb (length bs) 22 (omega arith) in
+    let over = ne-eqb (length bs) (end-of bs) (λ e. omega arith) in
+    let place : min (length bs) (end-of bs) ≡ end-of bs = omega arith in
+    rw (whole, over, place) refl
 
 -- the header says where the tables stand
 module _ (bs cs : List ℕ) (header : (k : ℕ) → k < 22 → getD cs k 0 ≡ getD bs k 0) where
@@ -55,14 +66,13 @@ module _ (bs cs : List ℕ) (header : (k : ℕ) → k < 22 → getD cs k 0 ≡ g
   end-by-header : end-of cs ≡ end-of bs
   end-by-header = ap (λ (y : Layout). y .text .start + y .text .count) layout-by-header
 
-  pub overlong : end-of bs ≤ 7012269 → 7012269 < length bs → 7012269 < length cs → fault-of cs ≡ fault-of bs
-  overlong bound long long′ =
+  overlong-alike : end-of bs ≤ 7012269 → 7012269 < length bs → 7012269 < length cs → fault-of cs ≡ fault-of bs
+  overlong-alike bound long long′ =
       let same = end-by-header in
-      let whole = le-ltb (length bs) 22 (omega arith) in let whole′ = le-ltb (length cs) 22 (omega arith) in
-      let over = ne-eqb (length bs) (end-of bs) (λ e. omega arith) in
-      let over′ = ne-eqb (length cs) (end-of bs) (λ e. omega arith) in
-      let place : min (length cs) (end-of bs) ≡ min (length bs) (end-of bs) = omega arith in
-      rw (whole, whole′, same, over, over′, place) refl
+      overlong cs (omega arith) long′ ∙ ap (λ n. Some (record { reason = FileLength; place = n })) same ∙ sym (overlong bs bound long)
+
+pub overlong-by-header : (bs : List ℕ) → end-of bs ≤ 7012269 → Overlong-by-header bs
+overlong-by-header bs bound long = (overlong bs bound long, λ cs long′ header. overlong-alike bs cs header bound long long′)
 
 module _ (bs cs : List ℕ) (s : SameButUnused bs cs) where
   abbrev l : Layout

@@ -37,8 +37,8 @@ use fields::readers::PackedPredecessor;
 use fields::readers::PackedRecord;
 use fields::readers::PackedValue;
 use layout::Layout;
-pub use layout::MAX_LENGTH;
 use layout::Table;
+pub use layout::max_length;
 use layout::read_layout;
 use scan::check_file;
 

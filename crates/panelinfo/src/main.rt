@@ -1,9 +1,9 @@
 // Lists the component of a packed file.
 use component::fault::Fault;
 use listing::Text;
-use packed::MAX_LENGTH;
 use packed::Packed;
 use packed::PackedComponent;
+use packed::max_length;
 use std::env;
 use std::io;
 use std::io::Read;
@@ -26,7 +26,7 @@ where the one before it ended.
 Bytes that are no packed file are refused: standard output is then
 `refused N at P`, the number of the reason and the place.
 
-exit status: 0 where the component was listed, 1 otherwise
+exit status: 0 where the component or this help was printed, 1 otherwise
 
 example: panelpack <examples/rate.panel | panelinfo";
 
@@ -49,6 +49,12 @@ enum Failure {
 impl From<io::Error> for Failure as FailureFromIo {
     fn from(error: io::Error) -> Failure {
         Failure::Io(error)
+    }
+}
+
+impl From<Fault> for Failure as FailureFromFault {
+    fn from(fault: Fault) -> Failure {
+        Failure::Refused(fault)
     }
 }
 
@@ -78,17 +84,16 @@ fn read_arguments(rt: &LibcRuntime) -> Result<Command, Failure> {
 
 fn list(rt: &LibcRuntime) -> Result<(), Failure> {
     let bytes = read_input(rt)?;
-    match Packed::open(bytes.as_slice()) {
-        Ok(packed) => Ok(print_listing(rt, bytes.len(), &packed)?),
-        Err(fault) => Err(Failure::Refused(fault)),
-    }
+    let packed = Packed::open(bytes.as_slice())?;
+    print_listing(rt, bytes.len(), &packed)?;
+    Ok(())
 }
 
 // One byte more than the longest packed file is enough to refuse a longer one.
 fn read_input(rt: &LibcRuntime) -> io::Result<Vec<u8>> {
     let mut bytes = Vec::new(rt.alloc());
     rt.stdin()
-        .take(MAX_LENGTH as u64 + 1)
+        .take(max_length() as u64 + 1)
         .read_to_end(&mut bytes)?;
     Ok(bytes)
 }

@@ -4,7 +4,7 @@ use native.Mathlib.Omega.{arith}
 use Rattle.layout.specs.declared.Layout.{Layout}
 use Rattle.layout.specs.Layout.{end-of}
 use Rattle.scan.proofs.Accepts.{accepted-exactly}
-use Rattle.packed.proofs.Files.{overlong, same-fault, same-meaning}
+use Rattle.packed.proofs.Files.{overlong-by-header, same-fault, same-meaning}
 use Rattle.packed.proofs.file_laws.Needs as need
 
 pub returns : need.returns
@@ -15,5 +15,5 @@ returns c =
     record {
       accepted = accepted-exactly bs;
       unused = λ cs s. (same-fault bs cs s, same-meaning bs cs s);
-      overlong = λ cs long long′ header. overlong bs cs header bound long long′;
+      overlong = overlong-by-header bs bound;
     }
