@@ -1,7 +1,7 @@
 -- Each case of an enum by its number and its values: codes count from 0 in
 -- the order in which the cases are declared.
 use mathlib.Core.List.{List, [], _∷_, _++_}
-use Prim.Native.Nat.{ℕ}
+use Prim.Native.Nat.{ℕ, _<_}
 use Rattle.std.specs.declared.option.Option.{Option}
 use Rattle.std.specs.declared.option.Option.the-variants.{Some, None}
 use Rattle.component.specs.declared.records.ReactFunctionType.{ReactFunctionType}
@@ -85,3 +85,15 @@ abbrev pub mention-code : Mention → List ℕ
 mention-code (mention.Place p) = 0 ∷ place-code p
 mention-code (mention.Spread p) = 1 ∷ place-code p
 mention-code mention.Hole = 2 ∷ []
+
+-- how many codes each has: with each reader's law that a code below this comes
+-- back, these are the codes that there are
+pub record Codes-below : Type 0 where
+  pub functions : (k : ReactFunctionType) → function-code k < 3
+  pub names : (n : IdentifierName) → number (name-code n) < 3
+  pub types : (t : ValueType) → type-code t < 5
+  pub returns : (r : Option ℕ) → number (return-code r) < 2
+  pub instructions : (i : InstructionValue) → number (instruction-code i) < 7
+  pub mentions : (m : Mention) → number (mention-code m) < 3
+  pub effects : (e : Effect) → effect-code e < 8
+  pub spans : (s : Option Span) → number (span-code s) < 2

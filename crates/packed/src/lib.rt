@@ -6,6 +6,7 @@ ghost use Rattle.std.specs.Options.{Cases as BySome};
 ghost use Rattle.std.specs.Results.{errPart};
 ghost use Rattle.std.specs.Vec.{made};
 ghost use Rattle.std.specs.shelf.Maps.{nth};
+ghost use Rattle.component.specs.Codes.{Codes-below};
 ghost use Rattle.component.specs.Meaning.{Meaning};
 ghost use Rattle.fields.specs.Fields.{le16};
 ghost use Rattle.layout.specs.Layout.{extent-in, size-of};
@@ -86,6 +87,7 @@ fn name_part<'a>(bytes: &'a [u8], layout: &Layout, n: usize) -> Option<&'a [u8]>
 // on the longest end that a header can give.
 fn file_laws(bytes: &[u8])
     ensures accepted { λ _. ⌜ Accepted-exactly (now (bytes .entry)) ⌝ }
+    ensures codes { λ _. ⌜ Codes-below ⌝ }
     ensures unused { λ _. ⌜ Unused-not-read (now (bytes .entry)) ⌝ }
     ensures overlong { λ _. ⌜ Overlong-by-header (now (bytes .entry)) ⌝ }
 {
@@ -104,6 +106,7 @@ impl<'a> Packed<'a> {
     pub fn open(bytes: &'a [u8]) -> Result<Packed<'a>, Fault>
         ensures judged { λ r. ⌜ errPart r ≡ fault-of (now (bytes .entry)) ⌝ }
         ensures accepted { λ _. ⌜ Accepted-exactly (now (bytes .entry)) ⌝ }
+        ensures codes { λ _. ⌜ Codes-below ⌝ }
         ensures meaning { λ r. ⌜ made r (λ p. meaning-at (now (p .bytes)) (p .kind) (p .layout) ≡ decoded (now (bytes .entry))) ⌝ }
         ensures unused { λ _. ⌜ Unused-not-read (now (bytes .entry)) ⌝ }
         ensures overlong { λ _. ⌜ Overlong-by-header (now (bytes .entry)) ⌝ }
