@@ -1,9 +1,7 @@
 // The source language: one statement to a line.
 use super::words::Code;
 use super::words::Problem;
-use super::words::ProblemDebug;
 use super::words::ProblemDisplay;
-use super::words::ProblemFromBuild;
 use super::words::Words;
 use assemble::builder::PanelBuilder;
 use assemble::error::BuildError;
@@ -24,7 +22,7 @@ use std::error::Error;
 use std::fmt;
 
 // What is wrong, and the number of the line, from 1.
-#[derive(Clone, Copy, Debug)]
+#[derive(Clone, Copy)]
 pub struct SourceError<'a> {
     pub line: usize,
     pub problem: Problem<'a>,
@@ -38,11 +36,18 @@ pub impl<'a> fmt::Display for SourceError<'a> as SourceErrorDisplay {
     }
 }
 
+pub impl<'a> fmt::Debug for SourceError<'a> as SourceErrorDebug {
+    fn fmt<W: fmt::Write>(&self, f: &mut fmt::Formatter<W>) -> fmt::Result {
+        fmt::Display::fmt(self, f)
+    }
+}
+
 pub impl<'a> Error for SourceError<'a> as SourceErrorError {}
 
 // What a line asks of the builder.
 #[derive(Drop)]
 enum Statement<'a> {
+    Nothing,
     Panel(u16),
     Name(&'a str),
     Text(&'a str),
@@ -107,42 +112,55 @@ const NO_RANGE: Range = Range { start: 0, end: 0 };
 // What the source asks for, in the order of its lines.
 pub fn parse_source<'a>(heap: Global, source: &'a str) -> Result<PanelBuilder, SourceError<'a>> {
     let mut builder = PanelBuilder::new(heap);
-    for (above, line) in source.lines().enumerate() {
-        if let Err(problem) = run_line(heap, &mut builder, line) {
-            return Err(SourceError {
-                line: above.saturating_add(1),
-                problem,
-            });
+    let mut line: usize = 0;
+    for text in source.lines() {
+        line = line.saturating_add(1);
+        if let Some(problem) = run_line(heap, &mut builder, text) {
+            return Err(SourceError { line, problem });
         }
     }
     Ok(builder)
 }
 
-// Runs a line: its statement once, or as often as `repeat` says.
-fn run_line<'a>(
-    heap: Global,
-    builder: &mut PanelBuilder,
-    line: &'a str,
-) -> Result<(), Problem<'a>> {
+// Runs a line, and answers what is wrong with it.
+fn run_line<'a>(heap: Global, builder: &mut PanelBuilder, line: &'a str) -> Option<Problem<'a>> {
     let mut words = Words::of(line);
-    let Some(mut keyword) = words.next() else {
-        return Ok(());
-    };
-    let mut times = 1;
-    if keyword == "repeat" {
-        times = words.number32("a number of times")?;
-        keyword = words.expect("a statement")?;
+    let (times, keyword) = read_times(&mut words);
+    let statement = read_statement(heap, keyword, &mut words);
+    let problem = words.end();
+    if problem.is_some() {
+        return problem;
     }
-    let statement = read_statement(heap, keyword, &mut words)?;
-    words.end()?;
+    run_times(builder, &statement, times)
+}
+
+// How often a statement is to be run, and its first word, which is empty where
+// the line is.
+fn read_times<'a>(words: &mut Words<'a>) -> (u32, &'a str) {
+    let word = words.next().unwrap_or("");
+    if word != "repeat" {
+        return (1, word);
+    }
+    let times = words.number32("a number of times");
+    (times, words.expect("a statement"))
+}
+
+fn run_times<'a>(
+    builder: &mut PanelBuilder,
+    statement: &Statement<'a>,
+    times: u32,
+) -> Option<Problem<'a>> {
     for _ in 0..times {
-        run_statement(builder, &statement)?;
+        if let Err(error) = run_statement(builder, statement) {
+            return Some(Problem::Refused(error));
+        }
     }
-    Ok(())
+    None
 }
 
 fn run_statement(builder: &mut PanelBuilder, statement: &Statement<'_>) -> Result<(), BuildError> {
     match statement {
+        Statement::Nothing => Ok(()),
         Statement::Panel(code) => {
             builder.set_kind(*code);
             Ok(())
@@ -155,158 +173,175 @@ fn run_statement(builder: &mut PanelBuilder, statement: &Statement<'_>) -> Resul
     }
 }
 
-fn read_statement<'a>(
-    heap: Global,
-    keyword: &'a str,
-    words: &mut Words<'a>,
-) -> Result<Statement<'a>, Problem<'a>> {
+fn read_statement<'a>(heap: Global, keyword: &'a str, words: &mut Words<'a>) -> Statement<'a> {
     match keyword {
-        "panel" => Ok(Statement::Panel(words.code("a kind of panel", &PANELS)?)),
-        "name" => Ok(Statement::Name(words.expect("a word")?)),
-        "text" => Ok(Statement::Text(words.expect("a word")?)),
+        "" => Statement::Nothing,
+        "panel" => Statement::Panel(words.code("a kind of panel", &PANELS)),
+        "name" => Statement::Name(words.expect("a word")),
+        "name-at" => Statement::Add(read_record(Table::Names, words)),
+        "text" => Statement::Text(words.expect("a word")),
         "raw" => read_raw(heap, words),
-        _ => Ok(Statement::Add(read_record(keyword, words)?)),
+        _ => read_add(keyword, words),
     }
 }
 
-fn read_raw<'a>(heap: Global, words: &mut Words<'a>) -> Result<Statement<'a>, Problem<'a>> {
-    let word = words.expect("a table or text")?;
-    let bytes = words.bytes(heap)?;
+// A record behind the word for its table.
+fn read_add<'a>(keyword: &'a str, words: &mut Words<'a>) -> Statement<'a> {
+    match Table::named(keyword) {
+        Some(table) => Statement::Add(read_record(table, words)),
+        None => {
+            words.unfit("a statement", keyword);
+            Statement::Nothing
+        }
+    }
+}
+
+fn read_raw<'a>(heap: Global, words: &mut Words<'a>) -> Statement<'a> {
+    let word = words.expect("a table or text");
+    let bytes = words.bytes(heap);
     if word == "text" {
-        return Ok(Statement::RawText(bytes));
+        return Statement::RawText(bytes);
     }
     match Table::named(word) {
-        Some(table) => Ok(Statement::Raw(table, bytes)),
-        None => Err(Problem::Unfit("a table or text", word)),
+        Some(table) => Statement::Raw(table, bytes),
+        None => {
+            words.unfit("a table or text", word);
+            Statement::Nothing
+        }
     }
 }
 
-fn read_record<'a>(keyword: &'a str, words: &mut Words<'a>) -> Result<Record, Problem<'a>> {
-    match keyword {
-        "name-at" => Ok(Record::Name(read_name(words)?)),
-        "value" => Ok(Record::Value(read_value(words)?)),
-        "function" => Ok(Record::Function(read_function(words)?)),
-        "block" => Ok(Record::Block(read_block(words)?)),
-        "predecessor" => Ok(Record::Predecessor(read_predecessor(words)?)),
-        "phi" => Ok(Record::Phi(read_phi(words)?)),
-        "instruction" => Ok(Record::Instruction(read_instruction(words)?)),
-        "mention" => Ok(Record::Mention(read_mention(words)?)),
-        _ => Err(Problem::Unfit("a statement", keyword)),
+fn read_record(table: Table, words: &mut Words<'_>) -> Record {
+    match table {
+        Table::Names => Record::Name(read_name(words)),
+        Table::Values => Record::Value(read_value(words)),
+        Table::Functions => Record::Function(read_function(words)),
+        Table::Blocks => Record::Block(read_block(words)),
+        Table::Predecessors => Record::Predecessor(read_predecessor(words)),
+        Table::Phis => Record::Phi(read_phi(words)),
+        Table::Instructions => Record::Instruction(read_instruction(words)),
+        Table::Mentions => Record::Mention(read_mention(words)),
     }
 }
 
-fn read_name<'a>(words: &mut Words<'a>) -> Result<NameRecord, Problem<'a>> {
-    let start = words.number16("a place in the text")?;
-    let length = words.number16("a length")?;
-    Ok(NameRecord { start, length })
+fn read_name(words: &mut Words<'_>) -> NameRecord {
+    NameRecord {
+        start: words.number16("a place in the text"),
+        length: words.number16("a length"),
+    }
 }
 
-fn read_value<'a>(words: &mut Words<'a>) -> Result<ValueRecord, Problem<'a>> {
-    let form = words.code("a form", &FORMS)?;
+fn read_value(words: &mut Words<'_>) -> ValueRecord {
+    let form = words.code("a form", &FORMS);
     let name = if form == UNNAMED {
         0
     } else {
-        words.number16("a name's number")?
+        words.number16("a name's number")
     };
-    let kind = words.code("a type", &TYPES)?;
-    let range = words.range()?;
-    Ok(ValueRecord {
+    ValueRecord {
         form,
         name,
-        kind,
-        range,
-    })
+        kind: words.code("a type", &TYPES),
+        range: words.range(),
+    }
 }
 
-fn read_function<'a>(words: &mut Words<'a>) -> Result<FunctionRecord, Problem<'a>> {
-    let params = words.run("params")?;
-    let blocks = words.run("blocks")?;
-    Ok(FunctionRecord { params, blocks })
+fn read_function(words: &mut Words<'_>) -> FunctionRecord {
+    FunctionRecord {
+        params: words.run("params"),
+        blocks: words.run("blocks"),
+    }
 }
 
-fn read_block<'a>(words: &mut Words<'a>) -> Result<BlockRecord, Problem<'a>> {
-    let id = words.number16("a block id")?;
-    let predecessors = words.run("preds")?;
-    let phis = words.run("phis")?;
-    let instructions = words.run("instructions")?;
-    let (returns, value) = match words.next() {
-        Some("return") => (1, words.number16("a value's number")?),
-        Some(word) => return Err(Problem::Unfit("return", word)),
-        None => (0, 0),
-    };
-    Ok(BlockRecord {
+fn read_block(words: &mut Words<'_>) -> BlockRecord {
+    let id = words.number16("a block id");
+    let predecessors = words.run("preds");
+    let phis = words.run("phis");
+    let instructions = words.run("instructions");
+    let (returns, value) = read_return(words);
+    BlockRecord {
         id,
         predecessors,
         phis,
         instructions,
         returns,
         value,
-    })
+    }
 }
 
-fn read_predecessor<'a>(words: &mut Words<'a>) -> Result<PredecessorRecord, Problem<'a>> {
-    let id = words.number16("a block id")?;
-    Ok(PredecessorRecord { id })
+// A block's return at the end of its line: whether there is one, and its value.
+fn read_return(words: &mut Words<'_>) -> (u16, u16) {
+    match words.next() {
+        Some(word) => {
+            words.check("return", word);
+            (1, words.number16("a value's number"))
+        }
+        None => (0, 0),
+    }
 }
 
-fn read_phi<'a>(words: &mut Words<'a>) -> Result<PhiRecord, Problem<'a>> {
-    let value = words.number16("a value's number")?;
-    let operands = words.run("operands")?;
-    Ok(PhiRecord { value, operands })
+fn read_predecessor(words: &mut Words<'_>) -> PredecessorRecord {
+    PredecessorRecord {
+        id: words.number16("a block id"),
+    }
 }
 
-fn read_instruction<'a>(words: &mut Words<'a>) -> Result<InstructionRecord, Problem<'a>> {
-    let kind = words.code("a kind of instruction", &KINDS)?;
+fn read_phi(words: &mut Words<'_>) -> PhiRecord {
+    PhiRecord {
+        value: words.number16("a value's number"),
+        operands: words.run("operands"),
+    }
+}
+
+fn read_instruction(words: &mut Words<'_>) -> InstructionRecord {
+    let kind = words.code("a kind of instruction", &KINDS);
     let subject = match kind {
-        LOAD_LOCAL | CALL | METHOD_CALL => words.number16("a mention's number")?,
+        LOAD_LOCAL | CALL | METHOD_CALL => words.number16("a mention's number"),
         _ => 0,
     };
     let arguments = match kind {
-        CALL | METHOD_CALL | ARRAY => words.run("args")?,
+        CALL | METHOD_CALL | ARRAY => words.run("args"),
         _ => NO_RUN,
     };
     let function = if kind == FUNCTION {
-        words.number16("a function's number")?
+        words.number16("a function's number")
     } else {
         0
     };
-    words.keyword("order")?;
-    let order = words.number32("an evaluation order")?;
-    let lvalues = words.run("lvalues")?;
-    let operands = words.run("operands")?;
-    Ok(InstructionRecord {
+    words.keyword("order");
+    InstructionRecord {
         kind,
-        order,
-        lvalues,
-        operands,
+        order: words.number32("an evaluation order"),
+        lvalues: words.run("lvalues"),
+        operands: words.run("operands"),
         subject,
         arguments,
         function,
-    })
+    }
 }
 
-fn read_mention<'a>(words: &mut Words<'a>) -> Result<MentionRecord, Problem<'a>> {
-    let form = words.code("a form of mention", &MENTION_FORMS)?;
+fn read_mention(words: &mut Words<'_>) -> MentionRecord {
+    let form = words.code("a form of mention", &MENTION_FORMS);
     if form == HOLE {
-        return Ok(MentionRecord {
+        return MentionRecord {
             value: 0,
             form,
             effect: 0,
             spanned: 0,
             span: NO_RANGE,
-        });
+        };
     }
-    let value = words.number16("a value's number")?;
-    let effect = words.code("an effect", &EFFECTS)?;
-    let (spanned, span) = match words.optional_range()? {
-        Some(span) => (1, span),
+    let value = words.number16("a value's number");
+    let effect = words.code("an effect", &EFFECTS);
+    let (spanned, span) = match words.next() {
+        Some(word) => (1, words.range_of(word)),
         None => (0, NO_RANGE),
     };
-    Ok(MentionRecord {
+    MentionRecord {
         value,
         form,
         effect,
         spanned,
         span,
-    })
+    }
 }

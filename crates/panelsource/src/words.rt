@@ -1,17 +1,15 @@
 // The words of a source line, and what is wrong with one.
 use assemble::builder::TEXT_MAX;
 use assemble::error::BuildError;
-use assemble::error::BuildErrorDebug;
 use assemble::error::BuildErrorDisplay;
 use assemble::records::Range;
 use assemble::records::Run;
 use std::alloc::Global;
-use std::alloc::Refused;
 use std::fmt;
 use std::str::SplitWhitespace;
 
 // What is wrong with a line.
-#[derive(Clone, Copy, Debug)]
+#[derive(Clone, Copy)]
 pub enum Problem<'a> {
     // The line ends where this should stand.
     Missing(&'static str),
@@ -23,25 +21,13 @@ pub enum Problem<'a> {
     Refused(BuildError),
 }
 
-pub impl<'a> From<BuildError> for Problem<'a> as ProblemFromBuild {
-    fn from(e: BuildError) -> Problem<'a> {
-        Problem::Refused(e)
-    }
-}
-
-pub impl<'a, T: Drop> From<Refused<T>> for Problem<'a> as ProblemFromRefused {
-    fn from(_e: Refused<T>) -> Problem<'a> {
-        Problem::Refused(BuildError::Memory)
-    }
-}
-
 pub impl<'a> fmt::Display for Problem<'a> as ProblemDisplay {
     fn fmt<W: fmt::Write>(&self, f: &mut fmt::Formatter<W>) -> fmt::Result {
         match self {
             Problem::Missing(what) => write!(f, "{what} is missing"),
             Problem::Unfit(what, word) => write!(f, "`{word}` is not {what}"),
             Problem::Leftover(word) => write!(f, "`{word}` is left over"),
-            Problem::Refused(error) => write!(f, "{error}"),
+            Problem::Refused(error) => error.fmt(f),
         }
     }
 }
@@ -49,10 +35,16 @@ pub impl<'a> fmt::Display for Problem<'a> as ProblemDisplay {
 // A word and the code that it stands for.
 pub type Code = (&'static str, u16);
 
-// The words that are still to be read.
+const LIST: &str = "a list start+count";
+
+const RANGE: &str = "a range start..end";
+
+// The words that are still to be read, and the first problem with those that
+// were. A word that is missing is read as empty, and a number that is none as 0.
 #[derive(Drop)]
 pub struct Words<'a> {
     rest: SplitWhitespace<'a>,
+    problem: Option<Problem<'a>>,
 }
 
 impl<'a> Words<'a> {
@@ -64,7 +56,20 @@ impl<'a> Words<'a> {
         };
         Words {
             rest: code.split_whitespace(),
+            problem: None,
         }
+    }
+
+    // Notes a problem, unless there is one already.
+    pub fn note(&mut self, problem: Problem<'a>) {
+        if self.problem.is_none() {
+            self.problem = Some(problem);
+        }
+    }
+
+    // Notes that a word stands where `what` should.
+    pub fn unfit(&mut self, what: &'static str, word: &'a str) {
+        self.note(Problem::Unfit(what, word));
     }
 
     pub fn next(&mut self) -> Option<&'a str> {
@@ -72,126 +77,137 @@ impl<'a> Words<'a> {
     }
 
     // The next word, which stands for `what`.
-    pub fn expect(&mut self, what: &'static str) -> Result<&'a str, Problem<'a>> {
-        match self.next() {
-            Some(word) => Ok(word),
-            None => Err(Problem::Missing(what)),
+    pub fn expect(&mut self, what: &'static str) -> &'a str {
+        match self.rest.next() {
+            Some(word) => word,
+            None => {
+                self.note(Problem::Missing(what));
+                ""
+            }
         }
     }
 
     // The next word has to be this one.
-    pub fn keyword(&mut self, keyword: &'static str) -> Result<(), Problem<'a>> {
-        let word = self.expect(keyword)?;
-        if word == keyword {
-            Ok(())
-        } else {
-            Err(Problem::Unfit(keyword, word))
+    pub fn keyword(&mut self, keyword: &'static str) {
+        let word = self.expect(keyword);
+        self.check(keyword, word);
+    }
+
+    // The word has to be the keyword.
+    pub fn check(&mut self, keyword: &'static str, word: &'a str) {
+        if word != keyword {
+            self.unfit(keyword, word);
         }
     }
 
-    // Nothing may follow.
-    pub fn end(&mut self) -> Result<(), Problem<'a>> {
-        match self.next() {
-            Some(word) => Err(Problem::Leftover(word)),
-            None => Ok(()),
+    // The first problem of the whole line, behind which nothing may follow.
+    pub fn end(&mut self) -> Option<Problem<'a>> {
+        if let Some(word) = self.rest.next() {
+            self.note(Problem::Leftover(word));
         }
+        self.problem
     }
 
     // A number of two bytes.
-    pub fn number16(&mut self, what: &'static str) -> Result<u16, Problem<'a>> {
-        let word = self.expect(what)?;
-        match word.parse::<u16>() {
-            Ok(n) => Ok(n),
-            Err(_) => Err(Problem::Unfit(what, word)),
-        }
+    pub fn number16(&mut self, what: &'static str) -> u16 {
+        let word = self.expect(what);
+        self.parse16(what, word, word)
     }
 
     // A number of four bytes.
-    pub fn number32(&mut self, what: &'static str) -> Result<u32, Problem<'a>> {
-        let word = self.expect(what)?;
-        match word.parse::<u32>() {
-            Ok(n) => Ok(n),
-            Err(_) => Err(Problem::Unfit(what, word)),
+    pub fn number32(&mut self, what: &'static str) -> u32 {
+        let word = self.expect(what);
+        self.parse32(what, word, word)
+    }
+
+    // The code of a word of `codes`, or any code as a plain number.
+    pub fn code(&mut self, what: &'static str, codes: &[Code]) -> u16 {
+        let word = self.expect(what);
+        for (name, code) in codes {
+            if *name == word {
+                return *code;
+            }
         }
+        self.parse16(what, word, word)
     }
 
     // A list behind its keyword, as `args 3+2`.
-    pub fn run(&mut self, keyword: &'static str) -> Result<Run, Problem<'a>> {
-        self.keyword(keyword)?;
-        let word = self.expect("a list start+count")?;
-        match run_of(word) {
-            Some(run) => Ok(run),
-            None => Err(Problem::Unfit("a list start+count", word)),
+    pub fn run(&mut self, keyword: &'static str) -> Run {
+        self.keyword(keyword);
+        let word = self.expect(LIST);
+        let (start, count) = halves(word, "+");
+        Run {
+            start: self.parse16(LIST, word, start),
+            count: self.parse16(LIST, word, count),
         }
     }
 
-    // A range at the end of a line, as `5..30`, or nothing.
-    pub fn optional_range(&mut self) -> Result<Option<Range>, Problem<'a>> {
-        let Some(word) = self.next() else {
-            return Ok(None);
-        };
-        match range_of(word) {
-            Some(range) => Ok(Some(range)),
-            None => Err(Problem::Unfit("a range start..end", word)),
-        }
+    pub fn range(&mut self) -> Range {
+        let word = self.expect(RANGE);
+        self.range_of(word)
     }
 
-    pub fn range(&mut self) -> Result<Range, Problem<'a>> {
-        match self.optional_range()? {
-            Some(range) => Ok(range),
-            None => Err(Problem::Missing("a range start..end")),
+    // The range that a word is, as `5..30`.
+    pub fn range_of(&mut self, word: &'a str) -> Range {
+        let (start, end) = halves(word, "..");
+        Range {
+            start: self.parse32(RANGE, word, start),
+            end: self.parse32(RANGE, word, end),
         }
     }
 
     // All words that are left, each a byte of two hexadecimal digits.
-    pub fn bytes(&mut self, heap: Global) -> Result<Vec<u8>, Problem<'a>> {
+    pub fn bytes(&mut self, heap: Global) -> Vec<u8> {
         let mut bytes = Vec::new(heap);
         for _ in 0..TEXT_MAX {
-            let Some(word) = self.next() else {
+            let Some(word) = self.rest.next() else {
                 break;
             };
-            match byte_of(word) {
-                Some(byte) => bytes.push(byte)?,
-                None => return Err(Problem::Unfit("a byte of two hexadecimal digits", word)),
+            let byte = self.byte_of(word);
+            if bytes.push(byte).is_err() {
+                self.note(Problem::Refused(BuildError::Memory));
             }
         }
-        Ok(bytes)
+        bytes
     }
 
-    // The code of a word of `codes`, or any code as a plain number.
-    pub fn code(&mut self, what: &'static str, codes: &[Code]) -> Result<u16, Problem<'a>> {
-        let word = self.expect(what)?;
-        for (name, code) in codes {
-            if *name == word {
-                return Ok(*code);
+    // The byte that a word is, as `0a`.
+    fn byte_of(&mut self, word: &'a str) -> u8 {
+        match u8::from_str_radix(word, 16) {
+            Ok(byte) if word.len() == 2 && !word.starts_with('+') => byte,
+            _ => {
+                self.unfit("a byte of two hexadecimal digits", word);
+                0
             }
         }
-        match word.parse::<u16>() {
-            Ok(n) => Ok(n),
-            Err(_) => Err(Problem::Unfit(what, word)),
+    }
+
+    // The number that a part of a word is.
+    fn parse16(&mut self, what: &'static str, word: &'a str, part: &str) -> u16 {
+        match part.parse::<u16>() {
+            Ok(n) => n,
+            Err(_) => {
+                self.unfit(what, word);
+                0
+            }
+        }
+    }
+
+    fn parse32(&mut self, what: &'static str, word: &'a str, part: &str) -> u32 {
+        match part.parse::<u32>() {
+            Ok(n) => n,
+            Err(_) => {
+                self.unfit(what, word);
+                0
+            }
         }
     }
 }
 
-fn run_of(word: &str) -> Option<Run> {
-    let (start, count) = word.split_once('+')?;
-    Some(Run {
-        start: start.parse::<u16>().ok()?,
-        count: count.parse::<u16>().ok()?,
-    })
-}
-
-fn range_of(word: &str) -> Option<Range> {
-    let (start, end) = word.split_once("..")?;
-    Some(Range {
-        start: start.parse::<u32>().ok()?,
-        end: end.parse::<u32>().ok()?,
-    })
-}
-
-fn byte_of(word: &str) -> Option<u8> {
-    if word.len() != 2 || word.starts_with('+') {
-        return None;
+// What stands before and behind a mark.
+fn halves<'a>(word: &'a str, mark: &str) -> (&'a str, &'a str) {
+    match word.split_once(mark) {
+        Some(halves) => halves,
+        None => ("", ""),
     }
-    u8::from_str_radix(word, 16).ok()
 }
