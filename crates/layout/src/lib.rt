@@ -1,7 +1,7 @@
 // The tables of a packed file: their marks, sizes and where they stand.
 ghost use mathlib.Core.Path.{_≡_};
 ghost use Prim.Native.Nat.{_+_, _≤_};
-ghost use Rattle.layout.specs.Layout.{letters, mark-of, layout-of, size-of, sizes-in, extent-in};
+ghost use Rattle.layout.specs.Layout.{letters, mark-of, extent, layout-of, size-of, sizes-in, extent-in};
 use component::records::Sizes;
 use fields::read16;
 
@@ -125,47 +125,38 @@ impl Layout {
     }
 }
 
+fn records_at(start: u32, count: u16) -> Extent
+    ensures { λ r. ⌜ r ≡ extent start count ⌝ }
+{
+    Extent { start, count }
+}
+
 // The layout that the header's sizes give.
 pub fn read_layout(bytes: &[u8]) -> Layout
     ensures value { λ r. ⌜ r ≡ layout-of (now (bytes .entry)) ⌝ }
     ensures bound { λ r. ⌜ r .text .start + r .text .count ≤ 7012269 ⌝ }
 {
-    let names = Extent {
-        start: 22,
-        count: read16(bytes, 2),
-    };
-    let values = Extent {
-        start: names.start + 6 * names.count as u32,
-        count: read16(bytes, 4),
-    };
-    let functions = Extent {
-        start: values.start + 16 * values.count as u32,
-        count: read16(bytes, 6),
-    };
-    let blocks = Extent {
-        start: functions.start + 10 * functions.count as u32,
-        count: read16(bytes, 8),
-    };
-    let predecessors = Extent {
-        start: blocks.start + 20 * blocks.count as u32,
-        count: read16(bytes, 10),
-    };
-    let phis = Extent {
-        start: predecessors.start + 4 * predecessors.count as u32,
-        count: read16(bytes, 12),
-    };
-    let instructions = Extent {
-        start: phis.start + 8 * phis.count as u32,
-        count: read16(bytes, 14),
-    };
-    let mentions = Extent {
-        start: instructions.start + 24 * instructions.count as u32,
-        count: read16(bytes, 16),
-    };
-    let text = Extent {
-        start: mentions.start + 18 * mentions.count as u32 + 2,
-        count: read16(bytes, 18),
-    };
+    let names = records_at(22, read16(bytes, 2));
+    let values = records_at(names.start + 6 * names.count as u32, read16(bytes, 4));
+    let functions = records_at(values.start + 16 * values.count as u32, read16(bytes, 6));
+    let blocks = records_at(
+        functions.start + 10 * functions.count as u32,
+        read16(bytes, 8),
+    );
+    let predecessors = records_at(blocks.start + 20 * blocks.count as u32, read16(bytes, 10));
+    let phis = records_at(
+        predecessors.start + 4 * predecessors.count as u32,
+        read16(bytes, 12),
+    );
+    let instructions = records_at(phis.start + 8 * phis.count as u32, read16(bytes, 14));
+    let mentions = records_at(
+        instructions.start + 24 * instructions.count as u32,
+        read16(bytes, 16),
+    );
+    let text = records_at(
+        mentions.start + 18 * mentions.count as u32 + 2,
+        read16(bytes, 18),
+    );
     Layout {
         names,
         values,
