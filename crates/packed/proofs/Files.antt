@@ -6,12 +6,10 @@ use mathlib.Core.Bool.{true}
 use mathlib.Core.Logic.{inl, inr}
 use Prim.Native.Nat.{ℕ, zero, suc, _+_, _-_, _*_, _<_, _≤_, min}
 use native.Mathlib.Omega.{arith}
-use borrow.Author.Needs.{needs}
 use lib.Dec.{ltb, lit<}
-use lib.ListN.{getD, length, take, drop}
+use lib.ListN.{getD, length, drop}
 use Rattle.std.specs.Iters.{counting}
 use Rattle.std.specs.shelf.Lists.{between}
-use Rattle.std.proofs.shelf.Counted.{length-map-counting, getD-map-counting}
 use Rattle.std.proofs.shelf.Lists.{ext-getD, getD-take, getD-drop, length-take, length-drop}
 use Rattle.std.proofs.shelf.Tests.{cases-bool, cases-eq, eq-eqb, le-ltb, ltb-false, ne-eqb}
 use Rattle.component.proofs.Firsts.{firstIn-same}
@@ -19,7 +17,6 @@ use Rattle.std.specs.declared.option.Option.the-variants.{Some}
 use Rattle.component.specs.declared.fault.Reason.the-variants.{FileLength}
 use Rattle.fields.specs.Fields.{le16, function-of}
 use Rattle.fields.specs.Records.{value-of, function-at, block-of, predecessor-of, phi-of, instruction-of, mention-of}
-use Rattle.layout.specs.declared.Extent.{Extent}
 use Rattle.layout.specs.declared.Layout.{Layout}
 use Rattle.layout.specs.declared.Table.{Table}
 use Rattle.layout.specs.declared.Table.the-variants as table

@@ -13,17 +13,17 @@ module _ (bs : List ℕ) (l : Layout) (n : ℕ) where
   abbrev pub names : List (List ℕ)
   names = table-of (name-in (text-of bs (l .text))) 6 bs (l .names)
 
-  abbrev pub name : List ℕ
-  name = name-in (text-of bs (l .text)) (record-part 6 bs (l .names) n)
-
-  name-at : ℕ → List ℕ
+  abbrev name-at : ℕ → List ℕ
   name-at i = name-in (text-of bs (l .text)) (record-part 6 bs (l .names) i)
 
+  abbrev pub name : List ℕ
+  name = name-at n
+
   pub name-some : (s : List ℕ) → n < l .names .count → s ≡ name → Some s ≡ nth names n
-  name-some s h e = nth-tabled (λ i. name-in (text-of bs (l .text)) (record-part 6 bs (l .names) i)) (l .names .count) n s h e
+  name-some s h e = nth-tabled name-at (l .names .count) n s h e
 
   pub name-none : l .names .count ≤ n → None ≡ nth names n
-  name-none h = nth-tabled-past (λ i. name-in (text-of bs (l .text)) (record-part 6 bs (l .names) i)) (l .names .count) n h
+  name-none h = nth-tabled-past name-at (l .names .count) n h
 
   pub length-some : (s : List ℕ) → n < l .names .count → s ≡ name → Some (length s) ≡ nth (map length names) n
   length-some s h e = nth-map-some length names n s (name-some s h e)
