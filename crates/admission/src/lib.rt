@@ -1,5 +1,7 @@
 // Whether a component is admitted, whoever implements it, and else the first rule
 // that it breaks and the first record that breaks it.
+#![tactic(auto)]
+
 ghost use Rattle.std.specs.Prelude.{◌≡◌, if◌then◌else◌, Some, None};
 ghost use Rattle.std.specs.Result.{result_err};
 ghost use Rattle.component.specs.declared.fault.Reason.TheVariants.{TableSize};

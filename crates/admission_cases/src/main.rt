@@ -14,6 +14,8 @@
 // FROM TO STATEMENT` stands for a statement for each number from FROM up to TO,
 // TO excluded, with the number in place of every `@`. A statement's table is
 // its first word up to a dash, so that `name_at` counts with `name`.
+#![tactic(auto)]
+
 use admission::admit;
 use anyhow::anyhow;
 use component::fault::Fault;

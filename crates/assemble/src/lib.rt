@@ -1,4 +1,6 @@
 // Writes packed panel files by a builder that takes one record at a time.
+#![tactic(auto)]
+
 pub mod builder;
 pub mod bytes;
 pub mod error;

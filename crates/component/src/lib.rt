@@ -1,5 +1,7 @@
 // What every panel is to this library: its records, the interface by which
 // they are asked, and the reasons for which a call refuses.
+#![tactic(auto)]
+
 ghost use Rattle.std.specs.Prelude.{◌≡◌, [], map, length, slice_index_or};
 ghost use Rattle.std.specs.List.{slice_get};
 ghost use Rattle.component.specs.Meaning.{Meaning, sizes_of};

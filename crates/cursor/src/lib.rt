@@ -1,5 +1,7 @@
 // The order of the lines of a listing: which record or heading comes next, so
 // that each record has one line, whatever a component's lists say.
+#![tactic(auto)]
+
 mod progress;
 
 ghost use Rattle.std.specs.Prelude.{◌≡◌, ◌+◌, ◌<◌, IfSome, MatchOption};

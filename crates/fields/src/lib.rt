@@ -1,6 +1,8 @@
 // The fields of the packed form, and its records out of their bytes. A reader
 // is handed the part of the file that a record takes, from its mark on. A byte
 // past a part's end reads 0, so that every reader is total.
+#![tactic(auto)]
+
 ghost use Rattle.std.specs.Prelude.{◌≡◌, ◌+◌, ◌^◌, ◌<◌, slice_index};
 ghost use Rattle.std.specs.List.{between};
 ghost use Rattle.fields.specs.Fields.{le16, le32, run_at};

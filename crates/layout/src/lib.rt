@@ -1,4 +1,6 @@
 // The tables of a packed file: their marks, sizes and where they stand.
+#![tactic(auto)]
+
 ghost use Rattle.std.specs.Prelude.{◌≡◌, ◌+◌, ◌≤◌};
 ghost use Rattle.layout.specs.Layout.{letters, mark_of, extent, layout_of, size_of, sizes_in, extent_in};
 

@@ -7,6 +7,8 @@
 // of the others come last, so each record is listed once. Of a list of
 // mentions or predecessors the first 32 entries are shown, and of a name the
 // first 64 bytes. `?7` is number 7 of a table that has no such record.
+#![tactic(auto)]
+
 mod lines;
 mod lists;
 mod names;

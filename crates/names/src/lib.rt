@@ -1,6 +1,8 @@
 // The first name of a component that has a wrong length or is like an earlier
 // one. Names are found by their hash, so that each is read about once; names with
 // equal hashes are compared byte by byte.
+#![tactic(auto)]
+
 ghost use Rattle.std.specs.Prelude.{◌≡◌, ℕ, ◌+◌, ◌<◌, ◌≤◌, length, Decides, MatchOption};
 ghost use Rattle.rules.specs.Rules.{name_at, length_fits};
 ghost use Rattle.rules.specs.Admission.{name_breach};

@@ -1,5 +1,7 @@
 // How the functions of an admitted component are nested, and in which order
 // its phis and instructions are met.
+#![tactic(auto)]
+
 ghost use Rattle.nesting.specs.Nesting.{NestingStands};
 ghost use Rattle.nesting.specs.Order.{VisitingStands};
 

@@ -8,6 +8,8 @@
 //   grow N       appends N zeros
 //   open         prints the title with the refusal, or with the table sizes
 //   list         prints the listing of a file that opens
+#![tactic(auto)]
+
 use anyhow::anyhow;
 use component::Component;
 use component::fault::Fault;

@@ -2,6 +2,8 @@
 // argument it only opens the panel; with `--time` it prints what both take, and with
 // a word behind it, `--time --admission`, also what admitting panels of four sizes
 // takes against asking each of their records and name bytes once.
+#![tactic(auto)]
+
 use admission::admit;
 use anyhow::anyhow;
 use asking::ask_all;

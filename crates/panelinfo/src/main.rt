@@ -1,4 +1,6 @@
 // Lists the component of a packed file.
+#![tactic(auto)]
+
 use component::fault::Fault;
 use listing::Text;
 use packed::{Packed, max_length};

@@ -1,5 +1,7 @@
 // Packs a panel: readable source on standard input, the packed file on
 // standard output.
+#![tactic(auto)]
+
 use anyhow::anyhow;
 use panelsource::source::parse_source;
 use std::io::Write;

@@ -1,4 +1,6 @@
 // Tests of the source language and of the builder's limits.
+#![tactic(auto)]
+
 #[cfg(test)]
 mod tests {
     use panelsource::source::parse_source;

@@ -1,4 +1,6 @@
 // A component with its values renumbered: a layer over another component.
+#![tactic(auto)]
+
 ghost use Rattle.std.specs.Prelude.{◌≡◌, ◌<◌, length, MatchResult, slice_index_or};
 ghost use Rattle.std.specs.Result.{result_err};
 ghost use Rattle.component.specs.Exchange.{exchange, place_to, mention_to, block_to, phi_to};

@@ -1,4 +1,6 @@
 // The rules that the records of an admitted component keep.
+#![tactic(auto)]
+
 pub mod firsts;
 pub mod order;
 pub mod records;

@@ -1,4 +1,6 @@
 // Panels of any size up to the largest that is admitted, for measurements.
+#![tactic(auto)]
+
 ghost use Rattle.std.specs.Prelude.{◌<◌, ◌≤◌};
 
 use assemble::builder::PanelBuilder;

@@ -1,5 +1,7 @@
 // One run over a packed file: its length, then every mark, then every code and
 // where names end.
+#![tactic(auto)]
+
 ghost use Rattle.std.specs.Prelude.{◌≡◌, IfOk};
 ghost use Rattle.std.specs.Option.{option_or};
 ghost use Rattle.std.specs.Result.{result_err};

@@ -1,4 +1,6 @@
 // A component that its caller lends as tables.
+#![tactic(auto)]
+
 ghost use Rattle.std.specs.Prelude.{◌≡◌, map, length, take, drop};
 ghost use Rattle.std.specs.List.{slice_get};
 ghost use Rattle.tables.specs.Naming.{name_in};
