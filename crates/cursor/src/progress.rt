@@ -1,5 +1,5 @@
 // How far a table has been listed.
-ghost use Rattle.std.specs.Prelude.{◌≡◌, ◌+◌, ◌≤◌, is-some, MatchOption, nat_lt};
+ghost use Rattle.std.specs.Prelude.{◌≡◌, ◌+◌, ◌≤◌, is_some, MatchOption, nat_lt};
 ghost use Rattle.cursor.specs.Lists.{end_of, after};
 
 use component::records::Run;
@@ -50,7 +50,7 @@ impl Progress {
     // Gives a list its turn, if it starts where the one before it ended and
     // stays within the table.
     pub fn enter(&mut self, list: Run) -> bool
-        ensures value { result ≡ is-some (end_of list self.old.end self.old.size) }
+        ensures value { result ≡ is_some (end_of list self.old.end self.old.size) }
         ensures end { self.new.end ≡ after list self.old.end self.old.size }
         ensures kept { (self.new.next ≡ self.old.next) × (self.new.size ≡ self.old.size) }
     {

@@ -9,7 +9,7 @@ returns-then-n-sizes g c =
     let t = c.args.self.now.numbers.origins in
     let vs = (g.C.Component.meaning c.args.self.now.inner).values in
     let h : c.args.n < length vs = omega (arith, ap (λ (s : Sizes). s.values) c.sizes.ensures) in
-    slice_get_tabled (value_at t vs) (length vs) c.args.n _ h c.value-of-number.ensures
+    slice_get_tabled (value_at t vs) (length vs) c.args.n _ h c.value_of_number.ensures
 
 pub returns-else-n-sizes : goal.returns-else-n-sizes
 returns-else-n-sizes g c =

@@ -10,7 +10,7 @@ returns-in-Some c =
     let names = c.args.self.now.names.now in
     let n = c.args.n in
     let i = c.args.i in
-    c.byte-of.ensures
+    c.byte_of.ensures
     ∙ ap (λ s. slice_get s i) (get_or_slice_get_some (map (name_in text) names) n _ [] (slice_get_map_some (name_in text) names n _ c.in-Some.ensures))
 
 pub returns-in-None : goal.returns-in-None

@@ -8,7 +8,7 @@ returns-in-Some c =
     let text = c.args.self.now.text.now in
     let names = c.args.self.now.names.now in
     let n = c.args.n in
-    ap Some c.length-of.ensures
+    ap Some c.length_of.ensures
     ∙ slice_get_map_some length (map (name_in text) names) n _ (slice_get_map_some (name_in text) names n _ c.in-Some.ensures)
 
 pub returns-in-None : goal.returns-in-None

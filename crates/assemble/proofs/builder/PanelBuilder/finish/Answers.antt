@@ -5,6 +5,6 @@ use Rattle.assemble.proofs.builder.PanelBuilder.finish.Goals as goal
 
 pub returns : goal.returns
 returns c =
-    c.in-ok-put-file.ensures
-    ∙ ap (λ xs. file_after xs c.args.self.now c.in-ok-text.text) c.new-out.ensures.items
-    ∙ ap (λ n. file_after [] c.args.self.now n) (c.in-ok-text.ensures ∙ c.len.ensures)
+    c.in_ok-put_file.ensures
+    ∙ ap (λ xs. file_after xs c.args.self.now c.in_ok-text.text) c.new-out.ensures.items
+    ∙ ap (λ n. file_after [] c.args.self.now n) (c.in_ok-text.ensures ∙ c.len.ensures)
