@@ -35,11 +35,11 @@ loop-n-preserved g c =
     let s = c.in-Some.s in
     let r = c.in-Some.ensures in
     let holds = c.loop-n.invariant.0 in
-    let fits = ap length_fits (sym c.length-of-len.ensures) ∙ sym c.if-not-length-fits.ensures in
+    let fits = ap length_fits (sym c.length_of-len.ensures) ∙ sym c.if-not-length_fits.ensures in
     let in_row : n < 2048 = omega arith in (
       subst
           (λ (h : ℕ). Holds ns (set t s (n + 1)) (set hs n h) (n + 1))
-          (sym c.hash-name-hash.ensures)
+          (sym c.hash_name-hash.ensures)
           (put ns t hs n s holds r.0 r.1 in_row),
       none_more (name_stands ns) n c.loop-n.invariant.1 (stands_apart ns n fits (other ns t hs n s holds r.0 r.1)),
     )

@@ -14,7 +14,7 @@ pub loop-i-preserved : goal.loop-i-preserved
 loop-i-preserved g c =
     let bs = name_at (g.C.Component.meaning c.args.component.now).names c.args.n in
     let i = c.loop-i.i in
-    c.mix-hash.ensures ∙ ap (mixed_in c.loop-i.hash) c.name-byte.ensures ∙ ap (λ h. mixed_in h (slice_get bs i)) c.loop-i.invariant
+    c.mix-hash.ensures ∙ ap (mixed_in c.loop-i.hash) c.name_byte.ensures ∙ ap (λ h. mixed_in h (slice_get bs i)) c.loop-i.invariant
     ∙ hash_more bs i (omega (arith, c.requires))
 
 pub returns : goal.returns

@@ -5,5 +5,5 @@ use Rattle.names.proofs.length_of.Goals as goal
 
 pub returns : goal.returns
 returns g c =
-    c.length-or-none.ensures ∙ ap length_or_none c.name-length.ensures
+    c.length_or_none.ensures ∙ ap length_or_none c.name_length.ensures
     ∙ length_asked (g.C.Component.meaning c.args.component.now).names c.args.n

@@ -21,11 +21,11 @@ loop-n-preserved g c =
     let m = g.C.Component.meaning c.args.component.now in
     let t = c.loop-n.taken in
     let n = c.loop-n.n in
-    let b = c.body-in-body.result in
-    let body = c.body-in-body.ensures ∙ ap body_from c.instruction.ensures in
+    let b = c.body_in-body.result in
+    let body = c.body_in-body.ensures ∙ ap body_from c.instruction.ensures in
     let same = follows_by_row m t n b c.loop-n.invariant.0 body c.requires.bodies c.loop-n.invariant.1 c.args.end c.requires.end in
-    let after = c.note-body.ensures in (
+    let after = c.note_body.ensures in (
       ap length after ∙ length_noted t b ∙ c.loop-n.invariant.0,
       λ f l. ap (λ (r : List Bool). get_or r f false) after ∙ row_more m t n b c.loop-n.invariant.0 body c.requires.bodies c.loop-n.invariant.1 f l,
-      none_more (instruction_follows m) n c.loop-n.invariant.2 (sym same ∙ sym c.if-not-instruction-follows.ensures),
+      none_more (instruction_follows m) n c.loop-n.invariant.2 (sym same ∙ sym c.if-not-instruction_follows.ensures),
     )

@@ -2,13 +2,13 @@ use Rattle.std.proofs.Common.{◌≡◌, length, rules}
 use Rattle.renumbered.proofs.Numberings.{tables_exchanged}
 use Rattle.renumbered.proofs.numbers.Numbers.exchange.Goals as goal
 
-pub invariant-of-self : goal.invariant-of-self
-invariant-of-self c =
+pub invariant_of-self : goal.invariant_of-self
+invariant_of-self c =
     let t = c.args.self.now in
     let nlen : length t.numbers ≡ 2048 = search rules in
     let olen : length t.origins ≡ 2048 = search rules in
-    let known = tables_exchanged t.numbers t.origins _ _ c.args.a c.args.b c.requires.0 c.requires.1 nlen olen t.back t.forth c.exchange-entries.ensures c.exchange-entries-2.ensures in
-    (known.2, (known.3, tt))
+    let known = tables_exchanged t.numbers t.origins _ _ c.args.a c.args.b c.requires.0 c.requires.1 nlen olen t.back t.forth c.exchange_entries.ensures c.exchange_entries-2.ensures in
+    record { back = known.2; forth = known.3 }
 
 pub returns : goal.returns
 returns c =
