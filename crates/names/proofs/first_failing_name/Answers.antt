@@ -11,20 +11,20 @@ use Rattle.names.proofs.first_failing_name.Goals as goal
 pub loop-n-init : goal.loop-n-init
 loop-n-init g c = (empty (g.C.Component.meaning c.args.component.now).names, refl)
 
-pub returns-then-not-length-fits : goal.returns-then-not-length-fits
+pub returns-then-not-length_fits : goal.returns-then-not-length_fits
 unfolding name_breach
-returns-then-not-length-fits g c =
+returns-then-not-length_fits g c =
     let ns = (g.C.Component.meaning c.args.component.now).names in
     let n = c.loop-n.n in
-    let fails = fails_length ns n (ap length_fits (sym c.length-of-len.ensures) ∙ sym c.if-not-length-fits.ensures) in
+    let fails = fails_length ns n (ap length_fits (sym c.length_of-len.ensures) ∙ sym c.if-not-length_fits.ensures) in
     sym (first_here (name_stands ns) (length ns) n c.loop-n.invariant.1 fails (omega arith))
 
-pub returns-in-default : goal.returns-in-default
+pub returns-in_default : goal.returns-in_default
 unfolding name_breach
-returns-in-default g c =
+returns-in_default g c =
     let ns = (g.C.Component.meaning c.args.component.now).names in
     let n = c.loop-n.n in
-    sym (first_here (name_stands ns) (length ns) n c.loop-n.invariant.1 (fails_twin ns n c.in-default.ensures) (omega arith))
+    sym (first_here (name_stands ns) (length ns) n c.loop-n.invariant.1 (fails_twin ns n c.in_default.ensures) (omega arith))
 
 pub loop-n-preserved : goal.loop-n-preserved
 loop-n-preserved g c =

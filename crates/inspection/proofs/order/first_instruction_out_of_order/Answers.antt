@@ -7,14 +7,14 @@ use Rattle.inspection.proofs.order.first_instruction_out_of_order.Goals as goal
 pub loop-n-init : goal.loop-n-init
 loop-n-init g c = (refl, row_none (g.C.Component.meaning c.args.component.now), refl)
 
-pub returns-then-not-instruction-follows : goal.returns-then-not-instruction-follows
-returns-then-not-instruction-follows g c =
+pub returns-then-not-instruction_follows : goal.returns-then-not-instruction_follows
+returns-then-not-instruction_follows g c =
     let m = g.C.Component.meaning c.args.component.now in
     let t = c.loop-n.taken in
     let n = c.loop-n.n in
-    let body = c.body-in-body.ensures ∙ ap body_from c.instruction.ensures in
-    let same = follows_by_row m t n c.body-in-body.result c.loop-n.invariant.0 body c.requires.bodies c.loop-n.invariant.1 c.args.end c.requires.end in
-    sym (first_here (instruction_follows m) (length m.instructions) n c.loop-n.invariant.2 (sym same ∙ sym c.if-not-instruction-follows.ensures) (omega arith))
+    let body = c.body_in-body.ensures ∙ ap body_from c.instruction.ensures in
+    let same = follows_by_row m t n c.body_in-body.result c.loop-n.invariant.0 body c.requires.bodies c.loop-n.invariant.1 c.args.end c.requires.end in
+    sym (first_here (instruction_follows m) (length m.instructions) n c.loop-n.invariant.2 (sym same ∙ sym c.if-not-instruction_follows.ensures) (omega arith))
 
 pub loop-n-preserved : goal.loop-n-preserved
 loop-n-preserved g c =
