@@ -12,6 +12,6 @@ returns c =
       place = first_record_failing;
       answers = answers_tell;
       renumbered = renumbering_judged_alike;
-      nesting = c.nesting-stands.ensures;
-      visiting = c.visiting-stands.ensures;
+      nesting = c.nesting_stands.ensures;
+      visiting = c.visiting_stands.ensures;
     }

@@ -9,7 +9,7 @@ use Rattle.packed.proofs.file_laws.Goals as goal
 pub returns : goal.returns
 returns c =
     let bs = c.args.bytes.now in
-    let known = c.read-layout-layout.ensures in
+    let known = c.read_layout-layout.ensures in
     let bound : end_of bs ≤ 7012269 = omega (arith, ap (λ (y : Layout). y.text.start + y.text.count) known.value, known.bound) in
     record {
       accepted = accepted_exactly bs;

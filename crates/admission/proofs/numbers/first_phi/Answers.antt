@@ -4,5 +4,5 @@ use Rattle.admission.proofs.numbers.first_phi.Goals as goal
 
 pub returns : goal.returns
 returns g c =
-    c.first-failing.ensures
+    c.first_failing.ensures
     ∙ phi_by_table (g.C.Component.meaning c.args.component.now) c.args.sizes c.requires.sizes c.args.before.now c.requires.counted

@@ -2,8 +2,8 @@ use Rattle.std.proofs.Common.{arith, rules}
 use Rattle.admission.proofs.Fits.{fitting, body_inside}
 use Rattle.admission.proofs.order.first_instruction.Goals as goal
 
-pub first-instruction-out-of-order-requires : goal.first-instruction-out-of-order-requires
-first-instruction-out-of-order-requires g c =
+pub first_instruction_out_of_order-requires : goal.first_instruction_out_of_order-requires
+first_instruction_out_of_order-requires g c =
     let m = g.C.Component.meaning c.args.component.now in
     record {
       size = search rules;
