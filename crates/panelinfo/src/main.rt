@@ -5,6 +5,7 @@ use component::fault::Fault;
 use listing::Text;
 use packed::{Packed, max_length};
 use std::io::{Read, Write};
+use std::process::ExitCode;
 use std::{env, io};
 
 const USAGE: &str = "usage: panelinfo [--help] <FILE";
@@ -56,12 +57,14 @@ impl From<Fault> for Failure {
     }
 }
 
-fn main(rt: HostRuntime) -> Result<(), Failure> {
-    let outcome = run(&rt);
-    if let Err(failure) = &outcome {
-        report(&rt, failure);
+fn main(rt: HostRuntime) -> ExitCode {
+    match run(&rt) {
+        Ok(()) => ExitCode::SUCCESS,
+        Err(failure) => {
+            report(&rt, &failure);
+            ExitCode::FAILURE
+        }
     }
-    outcome
 }
 
 fn run(rt: &HostRuntime) -> Result<(), Failure> {

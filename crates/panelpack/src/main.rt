@@ -5,6 +5,7 @@
 use anyhow::anyhow;
 use panelsource::source::parse_source;
 use std::io::Write;
+use std::process::ExitCode;
 use std::{env, io};
 
 const HELP: &str = "panelpack < SOURCE > FILE
@@ -58,10 +59,12 @@ fn run(rt: &HostRuntime) -> anyhow::Result<()> {
     Ok(())
 }
 
-fn main(rt: HostRuntime) -> anyhow::Result<()> {
-    let result = run(&rt);
-    if let Err(error) = &result {
-        let _ = rt.eprintln(error);
+fn main(rt: HostRuntime) -> ExitCode {
+    match run(&rt) {
+        Ok(()) => ExitCode::SUCCESS,
+        Err(error) => {
+            let _ = rt.eprintln(&error);
+            ExitCode::FAILURE
+        }
     }
-    result
 }
