@@ -1,14 +1,9 @@
 -- A component is admitted exactly when it keeps every rule.
-use Rattle.std.proofs.Common.{◌≡◌, ℕ, zero, suc, ◌+◌, ◌-◌, ◌<◌, ◌≤◌, Bool, true, false, cond, not, ◌&&◌, eqb, ltb, leb, List, length, Some, None, Option, sym, refl, ap, ◌∙◌, inl, inr, ⊎_elim, arith}
-use Rattle.std.specs.Option.{option_or}
-use Rattle.std.proofs.lemmas.Bool.{and_parts, and_from, ltb-true, leb-true, lt-ltb, le-ltb, le-leb, eqb-true, eq-eqb, ne_eqb, both_ways, not-true, not_from_true, not_from_false, cond-true, cond-false, cases_lt, cases_order, cases_Bool}
-use Rattle.component.specs.declared.records.Run.{Run}
-use Rattle.component.specs.declared.fault.Reason.{Reason}
-use Rattle.component.specs.declared.records.Sizes.{Sizes}
-use Rattle.component.specs.declared.fault.Fault.{Fault}
+use Rattle.std.proofs.Common.{◌≡◌, ℕ, zero, suc, ◌<◌, ◌≤◌, Bool, true, false, cond, not, eqb, ltb, leb, length, Some, None, Option, sym, refl, ap, ◌∙◌, inl, inr, ⊎_elim, arith}
+use Rattle.std.proofs.lemmas.Bool.{and_parts, and_from, ltb-true, leb-true, lt-ltb, le-ltb, le-leb, eqb-true, eq-eqb, ne_eqb, both_ways, not-true, not_from_false, cond-true, cond-false, cases_lt, cases_order}
 use Rattle.component.specs.Meaning.{Meaning, sizes_of}
 use Rattle.component.proofs.Firsts.{option_or_none}
-use Rattle.rules.specs.Lists.{refused, starts_at, follows, any_below, rest_from, first_failing}
+use Rattle.rules.specs.Lists.{refused, starts_at, follows, rest_from}
 use Rattle.rules.specs.Rules.{sizes_fit, blocks_of, phis_of, instructions_of, block_follows, function_follows, is_body, body_of, body_free, taken_before, instruction_follows, alike, name_at, length_fits, repeated, name_stands}
 use Rattle.rules.specs.Admission.{admission, number_fault, order_fault, name_breach, size_breach, function_breach, function_order, block_order, phi_order, instruction_order, Sized, Fitting, Ordered, Named, Admitted}
 use Rattle.rules.proofs.Failing.{each_passes, none_fails}

@@ -1,9 +1,8 @@
 -- What the tests of sizes and records say where they pass.
-use Rattle.std.proofs.Common.{◌≡◌, ℕ, zero, suc, ◌+◌, ◌-◌, ◌<◌, ◌≤◌, Bool, true, false, cond, not, ◌&&◌, eqb, ltb, leb, List, length, Some, None, Option, sym, refl, ap, ◌∙◌, inl, inr, ⊎_elim, arith}
-use Rattle.std.specs.Option.{option_or}
+use Rattle.std.proofs.Common.{◌≡◌, ℕ, zero, suc, ◌<◌, ◌≤◌, Bool, true, cond, ◌&&◌, eqb, List, length, Some, None, Option, sym, refl, ap, ◌∙◌, inl, inr, arith}
 use Rattle.std.specs.List.{slice_get}
 use Rattle.std.proofs.lemmas.Option.{slice_get_past}
-use Rattle.std.proofs.lemmas.Bool.{and_parts, and_from, ltb-true, leb-true, ne_eqb, cond-false, cases_lt}
+use Rattle.std.proofs.lemmas.Bool.{and_parts, ltb-true, leb-true, ne_eqb, cond-false, cases_lt}
 use Rattle.component.specs.declared.records.Instruction.{Instruction}
 use Rattle.component.specs.declared.records.InstructionValue.{InstructionValue}
 use Rattle.component.specs.declared.records.InstructionValue.TheVariants as kind
@@ -11,13 +10,12 @@ use Rattle.component.specs.declared.records.Function.{Function}
 use Rattle.component.specs.declared.records.Block.{Block}
 use Rattle.component.specs.declared.records.Sizes.{Sizes}
 use Rattle.component.specs.declared.fault.Reason.{Reason}
-use Rattle.component.specs.declared.fault.Fault.{Fault}
 use Rattle.component.specs.Meaning.{Meaning, sizes_of}
 use Rattle.component.proofs.Firsts.{option_or_none}
 use Rattle.rules.specs.Lists.{refused, test_of, test_in, end_of, run_of, inside, starts_at}
 use Rattle.rules.specs.Rules.{kind_fits, instruction_fits, function_fits, block_fits, places_from, lvalues_fit, operands_fit, body_in, body_from, body_of, blocks_of, phis_of, instructions_of, returned_fits}
 use Rattle.rules.specs.Admission.{Fitting, number_fault, value_breach, function_breach, block_breach, phi_breach, instruction_breach, mention_breach}
-use Rattle.rules.proofs.Failing.{each_passes, none_fails}
+use Rattle.rules.proofs.Failing.{each_passes}
 
 -- nothing is refused without a place
 pub refused_none : (r : Reason) (o : Option ℕ) → refused r o ≡ None → o ≡ None

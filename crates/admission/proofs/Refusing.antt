@@ -1,17 +1,16 @@
 -- A component is refused for the first rule that it breaks, at the first record.
-use Rattle.std.proofs.Common.{◌≡◌, ℕ, zero, suc, ◌<◌, Bool, true, false, cond, Some, None, Option, sym, refl, ap, ◌∙◌, subst, inl, inr, arith}
+use Rattle.std.proofs.Common.{◌≡◌, ℕ, zero, suc, ◌<◌, Bool, true, false, cond, Some, None, Option, sym, refl, ap, ◌∙◌, subst, arith}
 use Rattle.std.specs.Option.{option_or}
-use Rattle.std.proofs.lemmas.Bool.{cases_eq}
 use Rattle.component.specs.declared.fault.Reason.{Reason}
 use Rattle.component.specs.declared.fault.Reason.TheVariants.{TableSize, RecordNumber, ListOrder, NameText}
 use Rattle.component.specs.declared.fault.Fault.{Fault}
 use Rattle.component.specs.Meaning.{Meaning}
 use Rattle.rules.specs.Lists.{refused, failing, first_failing}
-use Rattle.rules.specs.Admission.{admission, size_breach, number_fault, order_fault, name_breach, value_breach, function_breach, block_breach, phi_breach, instruction_breach, mention_breach, function_order, block_order, phi_order, instruction_order}
+use Rattle.rules.specs.Admission.{size_breach, number_fault, order_fault, name_breach, value_breach, function_breach, block_breach, phi_breach, instruction_breach, mention_breach, function_order, block_order, phi_order, instruction_order}
 use Rattle.rules.proofs.Failing.{each_passes}
 use Rattle.admission.specs.Laws.{Breaks, FirstRuleBroken, FirstRecordFailing}
 use Rattle.admission.proofs.Fits.{refused_none, fitting}
-use Rattle.admission.proofs.Accepts.{sized, size_none, number_none, ordered, order_none, named, name_none}
+use Rattle.admission.proofs.Accepts.{sized, size_none, number_none, ordered, order_none, name_none}
 
 -- what is found at n itself
 at_last : (b : Bool) (n i : ℕ) → cond b None (Some n) ≡ Some i → (i ≡ n) × (b ≡ false)

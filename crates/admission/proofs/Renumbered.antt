@@ -1,10 +1,8 @@
 -- A component is judged as its renumbering is.
-use Rattle.std.proofs.Common.{◌≡◌, ℕ, zero, suc, ◌+◌, ◌<◌, ◌≤◌, Bool, true, false, cond, not, ◌&&◌, eqb, ltb, leb, ◌⊎◌, List, [], ◌∷◌, map, length, Some, None, Option, sym, refl, ap, ◌∙◌, subst, inl, inr, ⊎_elim, arith}
+use Rattle.std.proofs.Common.{◌≡◌, ℕ, zero, suc, ◌+◌, ◌<◌, Bool, cond, ◌&&◌, eqb, ltb, leb, ◌⊎◌, List, [], ◌∷◌, map, length, Some, None, Option, sym, refl, ap, ◌∙◌, subst, inl, inr, arith}
 use lib.ListN.{length-map}
 use Rattle.std.specs.Option.{option_or}
-use Rattle.std.specs.List.{swap as exchanged, slice_get}
 use Rattle.component.specs.declared.records.Run.{Run}
-use Rattle.component.specs.declared.records.Value.{Value}
 use Rattle.component.specs.declared.records.Block.{Block}
 use Rattle.component.specs.declared.records.Phi.{Phi}
 use Rattle.component.specs.declared.records.Mention.{Mention}
@@ -13,15 +11,14 @@ use Rattle.component.specs.declared.records.InstructionValue.{InstructionValue}
 use Rattle.component.specs.declared.records.InstructionValue.TheVariants as kind
 use Rattle.component.specs.declared.records.Instruction.{Instruction}
 use Rattle.component.specs.declared.records.Sizes.{Sizes}
-use Rattle.component.specs.declared.fault.Reason.{Reason}
-use Rattle.component.specs.declared.fault.Reason.TheVariants.{TableSize, RecordNumber, ListOrder, NameText}
+use Rattle.component.specs.declared.fault.Reason.TheVariants.{TableSize, RecordNumber, NameText}
 use Rattle.component.specs.declared.fault.Fault.{Fault}
 use Rattle.component.specs.Meaning.{Meaning, sizes_of}
 use Rattle.component.specs.Exchange.{Exchange, ExchangesOf, swap, mention_to, returned_to, block_to, phi_to, exchange, exchanges}
 use Rattle.component.proofs.Exchange.{swap_twice, swap_below, swap_ltb, exchanged_length, slice_get_exchanged}
-use Rattle.rules.specs.Lists.{inside, test_of, test_in, run_of, run_in, starts_at, follows, all_below, refused, rest_from, first_failing}
-use Rattle.rules.specs.Rules.{sizes_fit, value_fits, function_fits, block_fits, phi_fits, instruction_fits, mention_fits, kind_fits, operands_fit, lvalues_fit, subject_fits, returned_fits, place_of, place_at, places_from, blocks_of, phis_of, instructions_of, block_follows, function_follows, instruction_follows, body_free, body_of, taken_before}
-use Rattle.rules.specs.Admission.{admission, size_breach, value_breach, function_breach, block_breach, phi_breach, instruction_breach, mention_breach, number_fault, function_order, block_order, phi_order, instruction_order, order_fault, name_breach}
+use Rattle.rules.specs.Lists.{inside, test_of, test_in, run_in, starts_at, follows, all_below, refused, first_failing}
+use Rattle.rules.specs.Rules.{sizes_fit, value_fits, function_fits, block_fits, phi_fits, instruction_fits, mention_fits, kind_fits, operands_fit, subject_fits, returned_fits, place_at, places_from, phis_of, instructions_of, block_follows, instruction_follows, body_free, body_of, taken_before}
+use Rattle.rules.specs.Admission.{admission, size_breach, value_breach, function_breach, block_breach, phi_breach, instruction_breach, mention_breach, block_order, phi_order, instruction_order, order_fault, name_breach}
 use Rattle.rules.proofs.Breaches.{first_same}
 use Rattle.rules.proofs.Failing.{same_first, each_passes, none_fails}
 use Rattle.admission.specs.Laws.{reason_of, JudgedAlike, RenumberingJudgedAlike}

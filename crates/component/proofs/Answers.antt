@@ -1,5 +1,5 @@
 -- A meaning by its answers.
-use Rattle.std.proofs.Common.{◌≡◌, ℕ, zero, suc, List, [], ◌∷◌, map, length, get_or, Some, None, sym, refl, ap, ◌∙◌, arith}
+use Rattle.std.proofs.Common.{◌≡◌, ℕ, suc, List, [], ◌∷◌, map, length, get_or, refl, ap, arith}
 use Rattle.std.specs.List.{slice_get}
 use Rattle.component.specs.declared.records.Sizes.{Sizes}
 use Rattle.component.specs.Meaning.{Meaning, sizes_of}

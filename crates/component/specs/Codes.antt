@@ -1,6 +1,6 @@
 -- Each case of an enum by its number and its values: codes count from 0 in
 -- the order in which the cases are declared.
-use Rattle.std.specs.Prelude.{ℕ, ◌<◌, List, [], ◌∷◌, ◌++◌, Some, None, Option}
+use Rattle.std.specs.Prelude.{ℕ, ◌<◌, List, [], ◌∷◌, Some, None, Option}
 use Rattle.component.specs.declared.records.ReactFunctionType.{ReactFunctionType}
 use Rattle.component.specs.declared.records.ReactFunctionType.TheVariants as function
 use Rattle.component.specs.declared.records.IdentifierName.{IdentifierName}

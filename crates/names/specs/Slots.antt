@@ -1,6 +1,6 @@
 -- Names in a table of 4,096 slots. A slot is 0, or a name's number and 1; a name
 -- stands at the first free slot from its hash on.
-use Rattle.std.specs.Prelude.{◌≡◌, ℕ, zero, suc, ◌+◌, ◌-◌, ◌*◌, ◌%◌, ◌<◌, ◌≤◌, Bool, not, List, [], ◌∷◌, length, Some, None, fold, count_by, Option, ◌==◌, ◌≢◌, bit_xor, slice_index}
+use Rattle.std.specs.Prelude.{◌≡◌, ℕ, ◌+◌, ◌-◌, ◌*◌, ◌%◌, ◌<◌, ◌≤◌, not, List, length, Some, None, fold, count_by, Option, ◌==◌, ◌≢◌, bit_xor, slice_index}
 use Rattle.rules.specs.Rules.{name_at}
 
 -- one byte of the FNV-1a hash

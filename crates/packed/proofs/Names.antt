@@ -1,5 +1,5 @@
 -- The names of a packed file by number.
-use Rattle.std.proofs.Common.{◌≡◌, ℕ, ◌<◌, ◌≤◌, List, [], map, length, get_or, Some, None, sym, ap, ◌∙◌}
+use Rattle.std.proofs.Common.{◌≡◌, ℕ, ◌<◌, ◌≤◌, List, [], map, length, get_or, Some, None, ap}
 use Rattle.std.specs.List.{slice_get}
 use Rattle.component.proofs.Tables.{slice_get_tabled, slice_get_tabled_past, slice_get_map_some, slice_get_map_none, get_or_slice_get_some, get_or_slice_get_none}
 use Rattle.layout.specs.declared.Layout.{Layout}

@@ -1,10 +1,10 @@
 -- A record means what its used fields say.
-use Rattle.std.proofs.Common.{◌≡◌, ℕ, ◌+◌, ◌*◌, ◌<◌, Bool, true, false, cond, not, ◌&&◌, ◌||◌, eqb, ltb, List, get_or, refl, ap, ◌∙◌, inl, inr, arith, lit<}
+use Rattle.std.proofs.Common.{◌≡◌, ℕ, ◌+◌, ◌*◌, ◌<◌, true, cond, not, eqb, ltb, List, get_or, refl, ap, ◌∙◌, inl, inr, arith, lit<}
 use Rattle.std.proofs.lemmas.Bool.{and_from, cases_Bool, eqb-true, lt-ltb, or_left, or_right}
 use Rattle.component.specs.declared.records.InstructionValue.{InstructionValue}
 use Rattle.component.specs.declared.records.InstructionValue.TheVariants as kind
 use Rattle.component.specs.declared.records.Run.{Run}
-use Rattle.fields.specs.Fields.{le16, le32, run_at, name_of, effect_of}
+use Rattle.fields.specs.Fields.{le16, le32, run_at, name_of}
 use Rattle.fields.specs.Records.{value_of, function_at, block_of, returned_of, predecessor_of, phi_of, instruction_value_of, instruction_of, span_of, place_of, mention_of}
 use Rattle.layout.specs.declared.Table.{Table}
 use Rattle.layout.specs.declared.Table.TheVariants as table

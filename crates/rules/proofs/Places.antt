@@ -1,7 +1,7 @@
 -- Lists of places, by how many places stand before each mention.
-use Rattle.std.proofs.Common.{◌≡◌, ℕ, zero, suc, ◌+◌, ◌<◌, ◌≤◌, Bool, true, false, cond, ◌&&◌, ltb, leb, List, length, get_or, sym, refl, ap, ◌∙◌, inl, inr, arith}
+use Rattle.std.proofs.Common.{◌≡◌, ℕ, zero, suc, ◌+◌, ◌≤◌, Bool, true, false, cond, ◌&&◌, ltb, leb, List, length, refl, ap, ◌∙◌, arith}
 use Rattle.std.specs.List.{slice_get}
-use Rattle.std.proofs.lemmas.Bool.{cases_Bool, leb-true, ltb-true}
+use Rattle.std.proofs.lemmas.Bool.{leb-true, ltb-true}
 use Rattle.std.proofs.lemmas.Bool.Decides.{nat_tests}
 use Rattle.component.specs.declared.records.Mention.{Mention}
 use Rattle.component.specs.declared.records.Run.{Run}
@@ -11,7 +11,7 @@ use Rattle.component.specs.declared.records.InstructionValue.{InstructionValue}
 use Rattle.component.specs.declared.records.InstructionValue.TheVariants as kind
 use Rattle.component.specs.declared.records.Sizes.{Sizes}
 use Rattle.rules.specs.Lists.{inside, end_of}
-use Rattle.rules.specs.Rules.{PlacesCounted, place_at, places_from, places_before, places_after, counted_places, operands_fit, lvalues_fit, subject_fits, phi_fits, kind_fits, instruction_fits}
+use Rattle.rules.specs.Rules.{PlacesCounted, place_at, places_from, places_before, places_after, counted_places, operands_fit, subject_fits, phi_fits, kind_fits, instruction_fits}
 
 -- the second of two tests counts only where the first passes
 and_same : (a b d : Bool) → (a ≡ true → b ≡ d) → (a && b) ≡ (a && d)

@@ -1,6 +1,6 @@
 -- When a component is admitted, and why it is not: the first rule that is broken,
 -- and the first record that breaks it.
-use Rattle.std.specs.Prelude.{◌≡◌, ℕ, ◌<◌, ◌≤◌, Bool, true, cond, List, length, Some, None, Option, ◌==◌, ◌≢◌}
+use Rattle.std.specs.Prelude.{◌≡◌, ℕ, ◌<◌, ◌≤◌, true, cond, length, Some, None, Option, ◌==◌, ◌≢◌}
 use Rattle.std.specs.Option.{option_or}
 use Rattle.component.specs.declared.fault.Reason.TheVariants.{TableSize, RecordNumber, ListOrder, NameText}
 use Rattle.component.specs.declared.fault.Fault.{Fault}

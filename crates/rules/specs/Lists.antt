@@ -1,5 +1,5 @@
 -- Lists of a component, and the first record that breaks a rule.
-use Rattle.std.specs.Prelude.{ℕ, zero, suc, ◌+◌, Bool, true, false, cond, not, ◌&&◌, ◌||◌, List, Some, None, Option, ◌==◌, nat_le, nat_lt}
+use Rattle.std.specs.Prelude.{ℕ, zero, suc, ◌+◌, Bool, true, false, cond, ◌&&◌, ◌||◌, List, Some, None, Option, ◌==◌, nat_le, nat_lt}
 use Rattle.std.specs.List.{slice_get}
 use Rattle.component.specs.declared.records.Run.{Run}
 use Rattle.component.specs.declared.fault.Reason.{Reason}

@@ -1,5 +1,5 @@
 -- No fault is given exactly where the bytes are a packed file.
-use Rattle.std.proofs.Common.{◌≡◌, ℕ, ◌+◌, ◌<◌, ◌≤◌, Bool, true, false, cond, ◌&&◌, eqb, ltb, leb, List, length, get_or, Some, None, Option, sym, refl, ap, ◌∙◌, inl, inr, arith}
+use Rattle.std.proofs.Common.{◌≡◌, ℕ, ◌+◌, ◌<◌, Bool, true, false, cond, eqb, ltb, List, length, get_or, Some, None, Option, refl, inl, inr, arith}
 use Rattle.std.specs.Option.{option_or}
 use Rattle.std.proofs.lemmas.Bool.{and_from, and_parts, cases_Bool, cases_eq, eq-eqb, eqb-true, le-leb, le-ltb, leb-true, lt-ltb, ltb-true, ne_eqb}
 use Rattle.component.specs.declared.fault.Fault.{Fault}
@@ -8,8 +8,8 @@ use Rattle.fields.specs.Fields.{le16}
 use Rattle.layout.specs.declared.Mark.{Mark}
 use Rattle.layout.specs.declared.Table.{Table}
 use Rattle.layout.specs.declared.Table.TheVariants as table
-use Rattle.layout.specs.Layout.{header_mark, text_mark, mark_of, layout_of, end_of, extent_in, record_at}
-use Rattle.checks.specs.Faults.{mark_fault, code_fault, name_fault, value_fault, mention_fault, record_fault, length_fault}
+use Rattle.layout.specs.Layout.{header_mark, text_mark, mark_of, layout_of, end_of, extent_in}
+use Rattle.checks.specs.Faults.{mark_fault, code_fault, record_fault, length_fault}
 use Rattle.scan.specs.Faults.{mark_of_record, codes_of_record, marks_in, codes_in, in_file_order, marks_fault, codes_fault, fault_of}
 use Rattle.scan.specs.Files.{Marked, Coded, PackedFile, AcceptedExactly, place_of}
 

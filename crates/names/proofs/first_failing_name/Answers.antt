@@ -1,6 +1,6 @@
-use Rattle.std.proofs.Common.{◌≡◌, ℕ, ◌+◌, ◌<◌, true, false, length, set, sym, refl, ap, ◌∙◌, subst, arith, rules}
+use Rattle.std.proofs.Common.{◌≡◌, ℕ, ◌+◌, ◌<◌, length, set, sym, refl, ap, ◌∙◌, subst, arith}
 use Rattle.rules.specs.Lists.{first_failing}
-use Rattle.rules.specs.Rules.{name_at, name_stands, length_fits}
+use Rattle.rules.specs.Rules.{name_stands, length_fits}
 use Rattle.rules.specs.Admission.{name_breach}
 use Rattle.rules.proofs.Failing.{none_more, first_here}
 use Rattle.names.specs.Slots.{Holds}

@@ -1,11 +1,11 @@
-use Rattle.std.proofs.Common.{◌≡◌, ◌+◌, ◌<◌, ◌≤◌, cond, length, Some, None, sym, refl, ap, ◌∙◌, arith, length-set, rules}
+use Rattle.std.proofs.Common.{◌≡◌, ◌+◌, ◌<◌, cond, length, Some, None, sym, ap, ◌∙◌, arith, length-set}
 use Rattle.std.specs.Option.{option_or}
 use Rattle.std.specs.List.{slice_get}
 use Rattle.component.specs.declared.records.Sizes.{Sizes}
 use Rattle.component.specs.Meaning.{sizes_of}
 use Rattle.component.proofs.Firsts.{first_in_more}
-use Rattle.rules.specs.Lists.{test_of, test_in, failing, first_failing}
-use Rattle.rules.specs.Rules.{places_before, places_after, place_of, mention_fits}
+use Rattle.rules.specs.Lists.{test_of, test_in, failing}
+use Rattle.rules.specs.Rules.{places_before, places_after, mention_fits}
 use Rattle.inspection.proofs.Counts.{before_more, counts_more, after_few}
 use Rattle.inspection.proofs.mentions.read_mentions.Goals as goal
 

@@ -1,4 +1,4 @@
-use Rattle.std.proofs.Common.{◌≡◌, Bool, false, List, length, get_or, sym, refl, ap, ◌∙◌, arith, rules}
+use Rattle.std.proofs.Common.{Bool, false, List, length, get_or, sym, refl, ap, ◌∙◌, arith}
 use Rattle.rules.specs.Rules.{instruction_follows, body_from}
 use Rattle.rules.proofs.Failing.{none_more, first_here}
 use Rattle.inspection.proofs.Bodies.{row_none, row_more, length_noted, follows_by_row}

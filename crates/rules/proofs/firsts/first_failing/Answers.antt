@@ -1,4 +1,4 @@
-use Rattle.std.proofs.Common.{sym, arith, rules}
+use Rattle.std.proofs.Common.{sym, arith}
 use Rattle.rules.proofs.Failing.{none_more, first_here}
 use Rattle.rules.proofs.firsts.first_failing.Goals as goal
 
