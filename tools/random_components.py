@@ -1,11 +1,11 @@
 #!/usr/bin/env python3
 """Random small components, and a comparison of a program with the model.
 
-    python3 tools/random_components.py compare target/bin/admission_cases
+    python3 tools/random_components.py compare crates/admission_cases/out/admission_cases
         feeds the program many components in each run (its commands `case` and
         `packed`) and compares every outcome with tools/admission_model.py;
         20,000 components take less than a minute
-    python3 tools/random_components.py each target/bin/panelinfo
+    python3 tools/random_components.py each PROGRAM
         runs the program once for each component, with the packed file on its
         standard input, and compares the last line that it writes
     python3 tools/random_components.py write DIR

@@ -13,7 +13,7 @@
 // A statement is one of a panel's source. In the base and behind `add`, `each
 // FROM TO STATEMENT` stands for a statement for each number from FROM up to TO,
 // TO excluded, with the number in place of every `@`. A statement's table is
-// its first word up to a dash, so that `name_at` counts with `name`.
+// its first word up to a dash, so that `name-at` counts with `name`.
 #![tactic(auto)]
 
 use admission::admit;
