@@ -18,8 +18,8 @@ mod words;
 ghost use Rattle.std.specs.Prelude.{◌≡◌, ◌<◌, ◌≤◌, true, false, is_some};
 ghost use Rattle.component.specs.Meaning.{sizes_of};
 ghost use Rattle.cursor.specs.Left.{left, records_left};
-ghost use Rattle.cursor.specs.Lists.{after};
-ghost use Rattle.cursor.specs.Order.{line_at, Passed, NoRecord, First};
+ghost use Rattle.cursor.specs.Order.{line_at, Passed, Tables, Same, NoRecord, First};
+ghost use Rattle.listing.specs.Turns.{BlocksOf, PhisOf, InstructionsOf, Entered, Behind};
 
 use component::Component;
 use component::records::{Block, Function};
@@ -45,6 +45,7 @@ pub fn push_head<C: Component>(component: &C, text: &mut Text) -> Cursor
 pub fn push_next<C: Component>(component: &C, cursor: &mut Cursor, text: &mut Text) -> bool
     ensures value { result ≡ is_some (line_at cursor.old) }
     ensures passed { Passed (line_at cursor.old) cursor.old cursor.new }
+    ensures behind { Behind (C.Component.meaning component.now) (line_at cursor.old) cursor.old cursor.new }
     ensures more { result ≡ true → left cursor.new < left cursor.old }
     ensures complete { result ≡ false → records_left cursor.new ≡ 0 }
 {
@@ -58,6 +59,7 @@ pub fn push_next<C: Component>(component: &C, cursor: &mut Cursor, text: &mut Te
 }
 
 fn push_line<C: Component>(component: &C, line: Line, cursor: &mut Cursor, text: &mut Text)
+    ensures entered { Entered (C.Component.meaning component.now) line cursor.old cursor.new }
     ensures kept { NoRecord cursor.old cursor.new }
     ensures less { left cursor.new ≤ left cursor.old }
 {
@@ -99,7 +101,7 @@ fn push_function<C: Component>(
     cursor: &mut Cursor,
     text: &mut Text,
 )
-    ensures entered { cursor.new.blocks.end ≡ after function.blocks cursor.old.blocks.end cursor.old.blocks.size }
+    ensures entered { Tables Same Same (BlocksOf (Some function)) Same Same cursor.old cursor.new }
     ensures kept { NoRecord cursor.old cursor.new }
     ensures less { left cursor.new ≤ left cursor.old }
 {
@@ -117,8 +119,7 @@ fn push_block<C: Component>(
     cursor: &mut Cursor,
     text: &mut Text,
 )
-    ensures phis { cursor.new.phis.end ≡ after block.phis cursor.old.phis.end cursor.old.phis.size }
-    ensures instructions { cursor.new.instructions.end ≡ after block.instructions cursor.old.instructions.end cursor.old.instructions.size }
+    ensures entered { Tables Same Same Same (PhisOf (Some block)) (InstructionsOf (Some block)) cursor.old cursor.new }
     ensures kept { NoRecord cursor.old cursor.new }
     ensures less { left cursor.new ≤ left cursor.old }
 {
