@@ -113,6 +113,7 @@ impl PanelBuilder {
         ensures text { OnOk result (self.new.text.items ≡ self.old.text.items ++ word.now) }
         ensures name { OnOk result (self.new.names.bytes.items ≡ name_after self.old.names.bytes.items (record { start = vec_len self.old.text; length = length word.now })) }
         ensures count { OnOk result (self.new.names.count ≡ self.old.names.count + 1) }
+        ensures rest { self.new ≡ with_text (with_rows self.old Table.Names self.new.names) self.new.text }
     {
         let start = short(self.text.len())?;
         let length = short(word.len())?;

@@ -19,7 +19,7 @@ ghost use Rattle.std.specs.Prelude.{◌≡◌, ◌<◌, ◌≤◌, true, false, 
 ghost use Rattle.component.specs.Meaning.{sizes_of};
 ghost use Rattle.cursor.specs.Left.{left, records_left};
 ghost use Rattle.cursor.specs.Order.{line_at, Passed, Tables, Same, NoRecord, First};
-ghost use Rattle.listing.specs.Turns.{BlocksOf, PhisOf, InstructionsOf, Entered, Behind};
+ghost use Rattle.listing.specs.Turns.{Entered, ListsEntered, Behind};
 
 use component::Component;
 use component::records::{Block, Function};
@@ -59,7 +59,7 @@ pub fn push_next<C: Component>(component: &C, cursor: &mut Cursor, text: &mut Te
 }
 
 fn push_line<C: Component>(component: &C, line: Line, cursor: &mut Cursor, text: &mut Text)
-    ensures entered { Entered (C.Component.meaning component.now) line cursor.old cursor.new }
+    ensures entered { ListsEntered (C.Component.meaning component.now) line cursor.old cursor.new }
     ensures kept { NoRecord cursor.old cursor.new }
     ensures less { left cursor.new ≤ left cursor.old }
 {
@@ -101,7 +101,7 @@ fn push_function<C: Component>(
     cursor: &mut Cursor,
     text: &mut Text,
 )
-    ensures entered { Tables Same Same (BlocksOf (Some function)) Same Same cursor.old cursor.new }
+    ensures entered { Tables Same Same (Entered (Some function.blocks)) Same Same cursor.old cursor.new }
     ensures kept { NoRecord cursor.old cursor.new }
     ensures less { left cursor.new ≤ left cursor.old }
 {
@@ -119,7 +119,7 @@ fn push_block<C: Component>(
     cursor: &mut Cursor,
     text: &mut Text,
 )
-    ensures entered { Tables Same Same Same (PhisOf (Some block)) (InstructionsOf (Some block)) cursor.old cursor.new }
+    ensures entered { Tables Same Same Same (Entered (Some block.phis)) (Entered (Some block.instructions)) cursor.old cursor.new }
     ensures kept { NoRecord cursor.old cursor.new }
     ensures less { left cursor.new ≤ left cursor.old }
 {
