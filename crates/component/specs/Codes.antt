@@ -1,6 +1,6 @@
 -- Each case of an enum by its number and its values: codes count from 0 in
 -- the order in which the cases are declared.
-use Rattle.std.specs.Prelude.{ℕ, ◌<◌, List, [], ◌∷◌, Some, None, Option}
+use Rattle.std.specs.Prelude.{◌≡◌, ℕ, ◌<◌, ◌≤◌, List, [], ◌∷◌, Some, None, Option, Result, MatchResult}
 use Rattle.component.specs.declared.records.ReactFunctionType.{ReactFunctionType}
 use Rattle.component.specs.declared.records.ReactFunctionType.TheVariants as function
 use Rattle.component.specs.declared.records.IdentifierName.{IdentifierName}
@@ -16,6 +16,7 @@ use Rattle.component.specs.declared.records.Span.{Span}
 use Rattle.component.specs.declared.records.Place.{Place}
 use Rattle.component.specs.declared.records.Mention.{Mention}
 use Rattle.component.specs.declared.records.Mention.TheVariants as mention
+use Rattle.component.specs.declared.decoding.UnknownCode.{UnknownCode}
 
 -- the number that a coded case begins with
 abbrev pub number : List ℕ → ℕ
@@ -43,6 +44,16 @@ effect_code effect.ConditionallyMutateIterator = 4
 effect_code effect.ConditionallyMutate = 5
 effect_code effect.Mutate = 6
 effect_code effect.Store = 7
+
+-- a number's case is the one with this code; a number past the last code has none
+abbrev pub IsFunctionCoded : ℕ → Result ReactFunctionType UnknownCode → Type 0
+IsFunctionCoded n r = MatchResult r (λ k. function_code k ≡ n) (λ e. (e.0 ≡ n) × (3 ≤ n))
+
+abbrev pub IsTypeCoded : ℕ → Result ValueType UnknownCode → Type 0
+IsTypeCoded n r = MatchResult r (λ t. type_code t ≡ n) (λ e. (e.0 ≡ n) × (5 ≤ n))
+
+abbrev pub IsEffectCoded : ℕ → Result Effect UnknownCode → Type 0
+IsEffectCoded n r = MatchResult r (λ e. effect_code e ≡ n) (λ e. (e.0 ≡ n) × (8 ≤ n))
 
 -- a form, then its name
 abbrev pub name_code : IdentifierName → List ℕ

@@ -3,3 +3,4 @@ pub mod Answers
 pub mod Codes
 pub mod Refusals
 pub mod Exchange
+pub mod Words

@@ -1,57 +1,56 @@
 // Why a call refuses: a number and a place.
-ghost use Rattle.std.specs.Prelude.{◌≡◌};
-ghost use Rattle.component.specs.Refusals.{number_of};
+ghost use Rattle.std.specs.Prelude.{◌≡◌, Some};
+ghost use Rattle.std.specs.Result.{result_err};
+ghost use Rattle.component.specs.Refusals.{number_of, fault_unless, fault_text};
+
+use std::error::Error;
+use std::fmt;
 
 // The reasons, under the numbers that programs print.
 #[derive(Clone, Copy, PartialEq, Eq, Debug)]
 pub enum Reason {
-    TableSize,
-    RecordNumber,
-    ListOrder,
-    NameText,
-    FileLength,
-    RecordMark,
-    FieldCode,
-    ShortMemory,
-    StrayMemory,
-    UnknownEffect,
-    UseTableFull,
-    TooManyPasses,
-    NothingChanged,
-    StillChanging,
-    NoEffectLeft,
-    ReportsFull,
-    NoSuchReport,
-    SourceCycle,
-    PoolFull,
-    BufferFull,
+    TableSize = 1,
+    RecordNumber = 2,
+    ListOrder = 3,
+    NameText = 4,
+    FileLength = 5,
+    RecordMark = 6,
+    FieldCode = 7,
+    ShortMemory = 8,
+    StrayMemory = 9,
+    UnknownEffect = 10,
+    UseTableFull = 11,
+    TooManyPasses = 12,
+    NothingChanged = 13,
+    StillChanging = 14,
+    NoEffectLeft = 15,
+    ReportsFull = 16,
+    NoSuchReport = 17,
+    SourceCycle = 18,
+    PoolFull = 19,
+    BufferFull = 20,
+}
+
+impl From<Reason> for u8 {
+    ghost from_gives = { λ r n. n ≡ number_of r };
+
+    fn from(reason: Reason) -> u8 {
+        reason as u8
+    }
 }
 
 impl Reason {
-    pub fn number(self) -> u8
-        ensures { result ≡ number_of self }
+    // Refuses at a place, unless `holds`.
+    pub fn unless(self, holds: bool, place: usize) -> Result<(), Fault>
+        ensures { result_err result ≡ fault_unless holds self place }
     {
-        match self {
-            Reason::TableSize => 1,
-            Reason::RecordNumber => 2,
-            Reason::ListOrder => 3,
-            Reason::NameText => 4,
-            Reason::FileLength => 5,
-            Reason::RecordMark => 6,
-            Reason::FieldCode => 7,
-            Reason::ShortMemory => 8,
-            Reason::StrayMemory => 9,
-            Reason::UnknownEffect => 10,
-            Reason::UseTableFull => 11,
-            Reason::TooManyPasses => 12,
-            Reason::NothingChanged => 13,
-            Reason::StillChanging => 14,
-            Reason::NoEffectLeft => 15,
-            Reason::ReportsFull => 16,
-            Reason::NoSuchReport => 17,
-            Reason::SourceCycle => 18,
-            Reason::PoolFull => 19,
-            Reason::BufferFull => 20,
+        if holds {
+            Ok(())
+        } else {
+            Err(Fault {
+                reason: self,
+                place,
+            })
         }
     }
 }
@@ -63,3 +62,13 @@ pub struct Fault {
     pub reason: Reason,
     pub place: usize,
 }
+
+impl fmt::Display for Fault {
+    ghost output = { λ f. Some (fault_text f) };
+
+    fn fmt<W: fmt::Write>(&self, f: &mut fmt::Formatter<W>) -> fmt::Result {
+        write!(f, "refused {} at {}", u8::from(self.reason), self.place)
+    }
+}
+
+impl Error for Fault {}

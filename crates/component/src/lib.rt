@@ -6,8 +6,10 @@ ghost use Rattle.std.specs.Prelude.{◌≡◌, [], map, length, slice_index_or};
 ghost use Rattle.std.specs.List.{slice_get};
 ghost use Rattle.component.specs.Meaning.{Meaning, sizes_of};
 
+pub mod decoding;
 pub mod fault;
 pub mod records;
+mod words;
 
 use records::{
     Block, Function, Instruction, Mention, Phi, Predecessor, ReactFunctionType, Sizes, Value,
@@ -55,15 +57,4 @@ pub trait Component {
 
     fn mention(&self, n: usize) -> Option<Mention>
         ensures { result ≡ slice_get (meaning self.now).mentions n };
-}
-
-// Entry `n` of a slice.
-pub fn pick<T: Copy>(entries: &[T], n: usize) -> Option<T>
-    ensures { result ≡ slice_get entries.now n }
-{
-    if n < entries.len() {
-        Some(entries[n])
-    } else {
-        None
-    }
 }

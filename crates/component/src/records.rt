@@ -5,7 +5,7 @@
 // A `u16` field is the number of a record in the table that its comment names.
 
 // What function 0 is.
-#[derive(Clone, Copy)]
+#[derive(Clone, Copy, PartialEq, Eq, Debug)]
 pub enum ReactFunctionType {
     Component,
     Hook,
@@ -13,21 +13,21 @@ pub enum ReactFunctionType {
 }
 
 // A list: `count` records of a table, from number `start` on.
-#[derive(Clone, Copy)]
+#[derive(Clone, Copy, PartialEq, Eq, Debug)]
 pub struct Run {
     pub start: u16,
     pub count: u16,
 }
 
 // A value's form, with the name that a form other than none has.
-#[derive(Clone, Copy)]
+#[derive(Clone, Copy, PartialEq, Eq, Debug)]
 pub enum IdentifierName {
     Unnamed,
     Named(u16),
     Promoted(u16),
 }
 
-#[derive(Clone, Copy)]
+#[derive(Clone, Copy, PartialEq, Eq, Debug)]
 pub enum ValueType {
     Other,
     UseState,
@@ -38,13 +38,13 @@ pub enum ValueType {
 
 // The evaluation orders at which a value may be mutated: `start` is inside,
 // `end` is not.
-#[derive(Clone, Copy)]
+#[derive(Clone, Copy, PartialEq, Eq, Debug)]
 pub struct MutableRange {
     pub start: u32,
     pub end: u32,
 }
 
-#[derive(Clone, Copy)]
+#[derive(Clone, Copy, PartialEq, Eq, Debug)]
 pub struct Value {
     pub name: IdentifierName,
     pub kind: ValueType,
@@ -52,14 +52,14 @@ pub struct Value {
 }
 
 // A function: its parameters are mentions.
-#[derive(Clone, Copy)]
+#[derive(Clone, Copy, PartialEq, Eq, Debug)]
 pub struct Function {
     pub params: Run,
     pub blocks: Run,
 }
 
 // A basic block. `returned` is the value of an explicit return.
-#[derive(Clone, Copy)]
+#[derive(Clone, Copy, PartialEq, Eq, Debug)]
 pub struct Block {
     pub id: u16,
     pub predecessors: Run,
@@ -69,13 +69,13 @@ pub struct Block {
 }
 
 // The id of a block from which control may come.
-#[derive(Clone, Copy)]
+#[derive(Clone, Copy, PartialEq, Eq, Debug)]
 pub struct Predecessor {
     pub id: u16,
 }
 
 // A phi writes `value`; its operands are mentions.
-#[derive(Clone, Copy)]
+#[derive(Clone, Copy, PartialEq, Eq, Debug)]
 pub struct Phi {
     pub value: u16,
     pub operands: Run,
@@ -83,7 +83,7 @@ pub struct Phi {
 
 // What an instruction does. A place, callee or property is a mention, and so
 // are arguments and elements.
-#[derive(Clone, Copy)]
+#[derive(Clone, Copy, PartialEq, Eq, Debug)]
 pub enum InstructionValue {
     Other,
     LoadLocal(u16),
@@ -96,7 +96,7 @@ pub enum InstructionValue {
 
 // An instruction at an evaluation order: lvalues, its own first, and operands
 // are mentions.
-#[derive(Clone, Copy)]
+#[derive(Clone, Copy, PartialEq, Eq, Debug)]
 pub struct Instruction {
     pub order: u32,
     pub lvalues: Run,
@@ -104,7 +104,7 @@ pub struct Instruction {
     pub value: InstructionValue,
 }
 
-#[derive(Clone, Copy)]
+#[derive(Clone, Copy, PartialEq, Eq, Debug)]
 pub enum Effect {
     Unknown,
     Freeze,
@@ -117,14 +117,14 @@ pub enum Effect {
 }
 
 // A place in the source text that the panel was made from.
-#[derive(Clone, Copy)]
+#[derive(Clone, Copy, PartialEq, Eq, Debug)]
 pub struct Span {
     pub start: u32,
     pub end: u32,
 }
 
 // A value where it is mentioned.
-#[derive(Clone, Copy)]
+#[derive(Clone, Copy, PartialEq, Eq, Debug)]
 pub struct Place {
     pub value: u16,
     pub effect: Effect,
@@ -132,7 +132,7 @@ pub struct Place {
 }
 
 // An entry of a list of parameters, operands, lvalues, arguments or elements.
-#[derive(Clone, Copy)]
+#[derive(Clone, Copy, PartialEq, Eq, Debug)]
 pub enum Mention {
     Place(Place),
     Spread(Place),
@@ -140,7 +140,7 @@ pub enum Mention {
 }
 
 // How many records each table has.
-#[derive(Clone, Copy)]
+#[derive(Clone, Copy, PartialEq, Eq, Debug)]
 pub struct Sizes {
     pub names: usize,
     pub values: usize,
