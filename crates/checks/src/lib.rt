@@ -1,5 +1,6 @@
 // The single checks of a packed file: its length, a mark, the codes of a record
-// and where a name ends.
+// and where a name ends. `bytes` and `at` stay parameters: each check needs another
+// bound on `at`, and a struct with one bound would ask more of its callers.
 #![tactic(auto)]
 
 ghost use Rattle.std.specs.Prelude.{◌≡◌, ◌+◌, ◌^◌, ◌<◌};
@@ -18,34 +19,18 @@ pub fn check_length(bytes: &[u8], end: usize) -> Result<(), Fault>
     ensures { result_err result ≡ length_fault bytes.now }
 {
     let length = bytes.len();
-    if length < 22 {
-        return Err(Fault {
-            reason: Reason::FileLength,
-            place: length,
-        });
-    }
-    if length == end {
-        Ok(())
-    } else {
-        Err(Fault {
-            reason: Reason::FileLength,
-            place: length.min(end),
-        })
-    }
+    Reason::FileLength.unless(length >= 22, length)?;
+    Reason::FileLength.unless(length == end, length.min(end))
 }
 
 pub fn check_mark(bytes: &[u8], at: usize, mark: Mark) -> Result<(), Fault>
     requires { at + 1 < 2 ^ 64 }
     ensures { result_err result ≡ mark_fault bytes.now at mark }
 {
-    if byte_at(bytes, at) == mark.first && byte_at(bytes, at + 1) == mark.second {
-        Ok(())
-    } else {
-        Err(Fault {
-            reason: Reason::RecordMark,
-            place: at,
-        })
-    }
+    Reason::RecordMark.unless(
+        byte_at(bytes, at) == mark.first && byte_at(bytes, at + 1) == mark.second,
+        at,
+    )
 }
 
 // The field at `at` holds a code below `limit`.
@@ -53,14 +38,7 @@ pub fn check_code(bytes: &[u8], at: usize, limit: u16) -> Result<(), Fault>
     requires { at + 2 < 2 ^ 64 }
     ensures { result_err result ≡ code_fault bytes.now at limit }
 {
-    if read16(bytes, at) < limit {
-        Ok(())
-    } else {
-        Err(Fault {
-            reason: Reason::FieldCode,
-            place: at,
-        })
-    }
+    Reason::FieldCode.unless(read16(bytes, at) < limit, at)
 }
 
 // The name of the record at `at` ends within the text.
@@ -69,14 +47,7 @@ fn check_name(bytes: &[u8], text: u16, at: usize) -> Result<(), Fault>
     ensures { result_err result ≡ name_fault bytes.now text at }
 {
     let end = read16(bytes, at + 2) as usize + read16(bytes, at + 4) as usize;
-    if end <= text as usize {
-        Ok(())
-    } else {
-        Err(Fault {
-            reason: Reason::FieldCode,
-            place: at + 2,
-        })
-    }
+    Reason::FieldCode.unless(end <= text as usize, at + 2)
 }
 
 fn check_value(bytes: &[u8], at: usize) -> Result<(), Fault>
@@ -123,7 +94,7 @@ pub fn note_wrong(found: &mut Option<Fault>, table: Table, bytes: &[u8], text: u
     requires { at + 18 < 2 ^ 64 }
     ensures { found.new ≡ option_or found.old (record_fault table bytes.now text at) }
 {
-    if let None = found {
+    if found.is_none() {
         *found = check_record(table, bytes, text, at).err();
     }
 }

@@ -7,7 +7,6 @@ ghost use Rattle.std.specs.Prelude.{◌≡◌, ◌+◌, ◌^◌, ◌<◌, slice_
 ghost use Rattle.std.specs.List.{between};
 ghost use Rattle.fields.specs.Fields.{le16, le32, run_at};
 
-pub mod codes;
 pub mod readers;
 
 use component::records::Run;
@@ -16,7 +15,7 @@ use component::records::Run;
 pub fn byte_at(part: &[u8], i: usize) -> u8
     ensures { result ≡ slice_index part.now i }
 {
-    if i < part.len() { part[i] } else { 0 }
+    part.get(i).copied().unwrap_or(0)
 }
 
 // What there is of the `size` bytes from `at` on.
@@ -36,9 +35,9 @@ pub fn read16(part: &[u8], at: usize) -> u16
     ensures { result ≡ le16 part.now at }
 {
     if at + 1 < part.len() {
-        part[at] as u16 + 256 * part[at + 1] as u16
+        u16::from_le_bytes([part[at], part[at + 1]])
     } else {
-        byte_at(part, at) as u16 + 256 * byte_at(part, at + 1) as u16
+        u16::from_le_bytes([byte_at(part, at), byte_at(part, at + 1)])
     }
 }
 

@@ -1,13 +1,13 @@
 // Each record out of its part.
 ghost use Rattle.std.specs.Prelude.{◌≡◌, ℕ, ◌<◌, List};
 ghost use Rattle.component.specs.Codes.{number, name_code, instruction_code, return_code, span_code, mention_code};
-ghost use Rattle.fields.specs.Fields.{le16, name_of};
+ghost use Rattle.fields.specs.Fields.{le16, name_of, type_of, effect_of};
 ghost use Rattle.fields.specs.Records.{value_of, function_at, block_of, returned_of, predecessor_of, phi_of, instruction_value_of, instruction_of, span_of, place_of, mention_of};
 
-use crate::{codes, read_run, read16, read32};
+use crate::{read_run, read16, read32};
 use component::records::{
-    Block, Function, IdentifierName, Instruction, InstructionValue, Mention, MutableRange, Phi,
-    Place, Predecessor, Span, Value,
+    Block, Effect, Function, IdentifierName, Instruction, InstructionValue, Mention, MutableRange,
+    Phi, Place, Predecessor, Span, Value, ValueType,
 };
 
 // A record of the packed form, by what its bytes mean.
@@ -30,13 +30,20 @@ fn read_name(part: &[u8]) -> IdentifierName
     }
 }
 
+// A value's type. A code past the last reads as the last.
+fn read_type(part: &[u8]) -> ValueType
+    ensures { result ≡ type_of (le16 part.now 6) }
+{
+    ValueType::try_from(read16(part, 6)).unwrap_or(ValueType::EffectHook)
+}
+
 impl PackedRecord for Value {
     ghost of = { value_of };
 
     fn read(part: &[u8]) -> Value {
         Value {
             name: read_name(part),
-            kind: codes::value_type(read16(part, 6)),
+            kind: read_type(part),
             range: MutableRange {
                 start: read32(part, 8),
                 end: read32(part, 12),
@@ -61,11 +68,7 @@ fn read_returned(part: &[u8]) -> Option<u16>
     ensures value { result ≡ returned_of part.now }
     ensures coded { le16 part.now 16 < 2 → number (return_code result) ≡ le16 part.now 16 }
 {
-    if read16(part, 16) == 0 {
-        None
-    } else {
-        Some(read16(part, 18))
-    }
+    (read16(part, 16) != 0).then(|| read16(part, 18))
 }
 
 impl PackedRecord for Block {
@@ -135,14 +138,16 @@ fn read_span(part: &[u8]) -> Option<Span>
     ensures value { result ≡ span_of part.now }
     ensures coded { le16 part.now 8 < 2 → number (span_code result) ≡ le16 part.now 8 }
 {
-    if read16(part, 8) == 0 {
-        None
-    } else {
-        Some(Span {
-            start: read32(part, 10),
-            end: read32(part, 14),
-        })
-    }
+    (read16(part, 8) != 0).then(|| Span {
+        start: read32(part, 10),
+        end: read32(part, 14),
+    })
+}
+
+fn read_effect(part: &[u8]) -> Effect
+    ensures { result ≡ effect_of (le16 part.now 6) }
+{
+    Effect::try_from(read16(part, 6)).unwrap_or(Effect::Store)
 }
 
 fn read_place(part: &[u8]) -> Place
@@ -150,7 +155,7 @@ fn read_place(part: &[u8]) -> Place
 {
     Place {
         value: read16(part, 2),
-        effect: codes::effect(read16(part, 6)),
+        effect: read_effect(part),
         span: read_span(part),
     }
 }

@@ -6,64 +6,23 @@ ghost use Rattle.std.specs.Result.{result_err};
 ghost use Rattle.std.specs.List.{slice_get};
 ghost use Rattle.component.specs.Codes.{CodesBelow};
 ghost use Rattle.component.specs.Meaning.{Meaning};
-ghost use Rattle.fields.specs.Fields.{le16};
+ghost use Rattle.fields.specs.Fields.{le16, function_of};
 ghost use Rattle.layout.specs.Layout.{extent_in, size_of};
 ghost use Rattle.scan.specs.Faults.{fault_of};
 ghost use Rattle.scan.specs.Files.{AcceptedExactly};
 ghost use Rattle.packed.specs.Decoding.{record_part, table_of, name_in, text_of, meaning_at, decoded};
 ghost use Rattle.packed.specs.Laws.{UnusedNotRead, OverlongByHeader};
 
+use component::Component;
 use component::fault::Fault;
 use component::records::{
     Block, Function, Instruction, Mention, Phi, Predecessor, ReactFunctionType, Sizes, Value,
 };
-use component::{Component, pick};
-use fields::codes::function_type;
 use fields::readers::PackedRecord;
 use fields::{part_at, read16};
 pub use layout::max_length;
 use layout::{Layout, Table, read_layout};
 use scan::check_file;
-
-// The part of the bytes that record `n` of a table takes.
-fn record_part<'a>(bytes: &'a [u8], layout: &Layout, table: Table, n: usize) -> Option<&'a [u8]>
-    ensures { MatchOption result ((extent_in layout.now table).count ≤ n) (λ s. (n < (extent_in layout.now table).count) × (s.now ≡ record_part (size_of table) bytes.now (extent_in layout.now table) n)) }
-{
-    let extent = layout.extent(table);
-    if n < extent.count as usize {
-        let size = table.record_size();
-        Some(part_at(bytes, extent.start as usize + size * n, size))
-    } else {
-        None
-    }
-}
-
-// Record `n` of a table.
-fn nth_record<R: PackedRecord>(bytes: &[u8], layout: &Layout, table: Table, n: usize) -> Option<R>
-    ensures { result ≡ slice_get (table_of R.PackedRecord.of (size_of table) bytes.now (extent_in layout.now table)) n }
-{
-    match record_part(bytes, layout, table, n) {
-        Some(part) => Some(R::read(part)),
-        None => None,
-    }
-}
-
-// The bytes of name `n`.
-fn name_part<'a>(bytes: &'a [u8], layout: &Layout, n: usize) -> Option<&'a [u8]>
-    ensures { MatchOption result (layout.now.names.count ≤ n) (λ s. (n < layout.now.names.count) × (s.now ≡ name_in (text_of bytes.now layout.now.text) (record_part 6 bytes.now layout.now.names n))) }
-{
-    match record_part(bytes, layout, Table::Names, n) {
-        Some(part) => {
-            let text = part_at(
-                bytes,
-                layout.text.start as usize,
-                layout.text.count as usize,
-            );
-            Some(part_at(text, read16(part, 2) as usize, read16(part, 4) as usize))
-        }
-        None => None,
-    }
-}
 
 // What holds of every file; nothing comes of it but these laws. The last rests
 // on the longest end that a header can give.
@@ -74,6 +33,20 @@ fn file_laws(bytes: &[u8])
     ensures overlong { OverlongByHeader bytes.now }
 {
     let _layout = read_layout(bytes);
+}
+
+// Byte `i` of a name.
+fn byte_of(name: &[u8], i: usize) -> Option<u8>
+    ensures { result ≡ slice_get name.now i }
+{
+    name.get(i).copied()
+}
+
+// The kind of function 0. A code past the last reads as the last.
+fn read_kind(bytes: &[u8]) -> ReactFunctionType
+    ensures { result ≡ function_of (le16 bytes.now 20) }
+{
+    ReactFunctionType::try_from(read16(bytes, 20)).unwrap_or(ReactFunctionType::Other)
 }
 
 #[derive(Clone, Copy)]
@@ -98,9 +71,45 @@ impl<'a> Packed<'a> {
         let layout = check_file(bytes)?;
         Ok(Packed {
             bytes,
-            kind: function_type(read16(bytes, 20)),
+            kind: read_kind(bytes),
             layout,
         })
+    }
+
+    // The part of the bytes that record `n` of a table takes.
+    fn record_part(&self, table: Table, n: usize) -> Option<&'a [u8]>
+        ensures { MatchOption result ((extent_in self.now.layout table).count ≤ n) (λ s. (n < (extent_in self.now.layout table).count) × (s.now ≡ record_part (size_of table) self.now.bytes.now (extent_in self.now.layout table) n)) }
+    {
+        let extent = self.layout.extent(table);
+        if n < extent.count as usize {
+            let size = table.record_size();
+            Some(part_at(self.bytes, extent.start as usize + size * n, size))
+        } else {
+            None
+        }
+    }
+
+    // Record `n` of a table.
+    fn record<R: PackedRecord>(&self, table: Table, n: usize) -> Option<R>
+        ensures { result ≡ slice_get (table_of R.PackedRecord.of (size_of table) self.now.bytes.now (extent_in self.now.layout table)) n }
+    {
+        Some(R::read(self.record_part(table, n)?))
+    }
+
+    fn text(&self) -> &'a [u8]
+        ensures { result.now ≡ text_of self.now.bytes.now self.now.layout.text }
+    {
+        let extent = self.layout.text;
+        part_at(self.bytes, extent.start as usize, extent.count as usize)
+    }
+
+    // The bytes of name `n`.
+    fn name(&self, n: usize) -> Option<&'a [u8]>
+        ensures { MatchOption result (self.now.layout.names.count ≤ n) (λ s. (n < self.now.layout.names.count) × (s.now ≡ name_in (text_of self.now.bytes.now self.now.layout.text) (record_part 6 self.now.bytes.now self.now.layout.names n))) }
+    {
+        let part = self.record_part(Table::Names, n)?;
+        let (start, length) = (read16(part, 2) as usize, read16(part, 4) as usize);
+        Some(part_at(self.text(), start, length))
     }
 
     // How many bytes of text the file has.
@@ -123,44 +132,38 @@ impl<'a> Component for Packed<'a> {
     }
 
     fn name_length(&self, n: usize) -> Option<usize> {
-        match name_part(self.bytes, &self.layout, n) {
-            Some(name) => Some(name.len()),
-            None => None,
-        }
+        Some(self.name(n)?.len())
     }
 
     fn name_byte(&self, n: usize, i: usize) -> Option<u8> {
-        match name_part(self.bytes, &self.layout, n) {
-            Some(name) => pick(name, i),
-            None => None,
-        }
+        byte_of(self.name(n)?, i)
     }
 
     fn value(&self, n: usize) -> Option<Value> {
-        nth_record::<Value>(self.bytes, &self.layout, Table::Values, n)
+        self.record::<Value>(Table::Values, n)
     }
 
     fn function(&self, n: usize) -> Option<Function> {
-        nth_record::<Function>(self.bytes, &self.layout, Table::Functions, n)
+        self.record::<Function>(Table::Functions, n)
     }
 
     fn block(&self, n: usize) -> Option<Block> {
-        nth_record::<Block>(self.bytes, &self.layout, Table::Blocks, n)
+        self.record::<Block>(Table::Blocks, n)
     }
 
     fn predecessor(&self, n: usize) -> Option<Predecessor> {
-        nth_record::<Predecessor>(self.bytes, &self.layout, Table::Predecessors, n)
+        self.record::<Predecessor>(Table::Predecessors, n)
     }
 
     fn phi(&self, n: usize) -> Option<Phi> {
-        nth_record::<Phi>(self.bytes, &self.layout, Table::Phis, n)
+        self.record::<Phi>(Table::Phis, n)
     }
 
     fn instruction(&self, n: usize) -> Option<Instruction> {
-        nth_record::<Instruction>(self.bytes, &self.layout, Table::Instructions, n)
+        self.record::<Instruction>(Table::Instructions, n)
     }
 
     fn mention(&self, n: usize) -> Option<Mention> {
-        nth_record::<Mention>(self.bytes, &self.layout, Table::Mentions, n)
+        self.record::<Mention>(Table::Mentions, n)
     }
 }

@@ -2,11 +2,12 @@ use Rattle.std.proofs.Common.{◌∙◌}
 use Rattle.packed.proofs.Names.{byte_some, byte_none}
 use Rattle.packed.proofs.PackedComponent.name_byte.Goals as goal
 
-pub returns-in-Some : goal.returns-in-Some
-returns-in-Some c =
+pub returns-in_err-name : goal.returns-in_err-name
+returns-in_err-name c =
     let p = c.args.self.now in
-    c.pick.ensures ∙ byte_some p.bytes.now p.layout c.args.n _ c.args.i c.in-Some.ensures.0 c.in-Some.ensures.1
+    c.from_residual.ensures ∙ byte_none p.bytes.now p.layout c.args.n c.args.i c.in_err-name.ensures
 
-pub returns-in-None : goal.returns-in-None
-returns-in-None c =
-    let p = c.args.self.now in byte_none p.bytes.now p.layout c.args.n c.args.i c.in-None.ensures
+pub returns : goal.returns
+returns c =
+    let p = c.args.self.now in
+    c.byte_of.ensures ∙ byte_some p.bytes.now p.layout c.args.n _ c.args.i c.in_ok-name.ensures.0 c.in_ok-name.ensures.1
