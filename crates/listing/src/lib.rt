@@ -13,7 +13,6 @@ mod lines;
 mod lists;
 mod names;
 mod text;
-mod words;
 
 ghost use Rattle.std.specs.Prelude.{◌≡◌, ◌<◌, ◌≤◌, true, false, is_some};
 ghost use Rattle.component.specs.Meaning.{sizes_of};
@@ -32,9 +31,7 @@ pub use text::Text;
 pub fn push_head<C: Component>(component: &C, text: &mut Text) -> Cursor
     ensures { First (sizes_of (C.Component.meaning component.now)) result }
 {
-    text.push("kind ");
-    text.push(words::kind_word(component.kind()));
-    text.push("\n");
+    text.push(format_args!("kind {}\n", component.kind()));
     let sizes = component.sizes();
     lines::push_sizes(sizes, text);
     Cursor::new(sizes)

@@ -1,8 +1,7 @@
 // Records, each as a line.
-use crate::lists::{push_bounds, push_mention, push_mentions, push_predecessors};
+use crate::lists::{push_mention, push_mentions, push_predecessors};
 use crate::names::{push_identifier, push_unknown, push_value};
 use crate::text::Text;
-use crate::words::type_word;
 use component::Component;
 use component::records::{
     Block, IdentifierName, Instruction, InstructionValue, Phi, Run, Sizes, Value,
@@ -21,43 +20,31 @@ pub fn push_sizes(sizes: Sizes, text: &mut Text) {
     ];
     text.push("sizes");
     for (table, size) in tables {
-        text.push("  ");
-        push_numbered(table, size, text);
+        text.push(format_args!("  {table} {size}"));
     }
     text.push("\n");
 }
 
-// A word and a number.
-fn push_numbered(word: &str, n: usize, text: &mut Text) {
-    text.push(word);
-    text.push(" ");
-    text.push_number(n as u64);
-}
-
 pub fn push_value_line<C: Component>(component: &C, n: usize, value: Value, text: &mut Text) {
-    push_numbered("value", n, text);
+    text.push(format_args!("value {n}"));
     push_identifier(component, value.name, text);
     if let IdentifierName::Promoted(_) = value.name {
         text.push(" (promoted)");
     }
-    text.push(": ");
-    text.push(type_word(value.kind));
-    text.push(", range ");
-    push_bounds(value.range.start, value.range.end, text);
-    text.push("\n");
+    text.push(format_args!(
+        ": {}, range {}..{}\n",
+        value.kind, value.range.start, value.range.end
+    ));
 }
 
 pub fn push_function_start<C: Component>(component: &C, n: usize, params: Run, text: &mut Text) {
-    push_numbered("function", n, text);
-    text.push(" (");
+    text.push(format_args!("function {n} ("));
     push_mentions(component, params, text);
     text.push(")");
 }
 
 pub fn push_block_start<C: Component>(component: &C, n: usize, block: Block, text: &mut Text) {
-    push_numbered("  block", n, text);
-    push_numbered(", id", usize::from(block.id), text);
-    text.push(", from [");
+    text.push(format_args!("  block {n}, id {}, from [", block.id));
     push_predecessors(component, block.predecessors, text);
     text.push("]");
     if let Some(value) = block.returned {
@@ -68,16 +55,11 @@ pub fn push_block_start<C: Component>(component: &C, n: usize, block: Block, tex
 
 // A list that is not expanded.
 pub fn push_not_in_sequence(table: &str, list: Run, text: &mut Text) {
-    text.push(", ");
-    push_numbered(table, usize::from(list.start), text);
-    text.push("+");
-    text.push_number(u64::from(list.count));
-    text.push(" (not in sequence)");
+    text.push(format_args!(", {table} {}+{} (not in sequence)", list.start, list.count));
 }
 
 pub fn push_phi<C: Component>(component: &C, n: usize, phi: Phi, text: &mut Text) {
-    push_numbered("    phi", n, text);
-    text.push(": ");
+    text.push(format_args!("    phi {n}: "));
     push_value(component, phi.value, text);
     text.push(" = phi [");
     push_mentions(component, phi.operands, text);
@@ -90,10 +72,8 @@ pub fn push_instruction<C: Component>(
     instruction: Instruction,
     text: &mut Text,
 ) {
-    push_numbered("    instruction", n, text);
-    text.push(", order ");
-    text.push_number(u64::from(instruction.order));
-    text.push(": [");
+    let order = instruction.order;
+    text.push(format_args!("    instruction {n}, order {order}: ["));
     push_mentions(component, instruction.lvalues, text);
     text.push("] = ");
     push_instruction_value(component, instruction.value, text);
@@ -128,12 +108,10 @@ fn push_instruction_value<C: Component>(component: &C, value: InstructionValue, 
 }
 
 fn push_function_number<C: Component>(component: &C, n: usize, text: &mut Text) {
+    text.push("function ");
     match component.function(n) {
-        Some(_) => push_numbered("function", n, text),
-        None => {
-            text.push("function ");
-            push_unknown(n, text);
-        }
+        Some(_) => text.push(n),
+        None => push_unknown(n, text),
     }
 }
 

@@ -4,7 +4,6 @@ ghost use Rattle.listing.specs.Lists.{shown};
 
 use crate::names::{push_unknown, push_value};
 use crate::text::Text;
-use crate::words::effect_word;
 use component::Component;
 use component::records::{Mention, Place, Run};
 
@@ -17,39 +16,32 @@ fn shown_count(list: Run) -> usize
     usize::from(list.count).min(MOST_SHOWN)
 }
 
-// How many entries there are besides those that are shown.
-fn push_hidden_count(list: Run, text: &mut Text) {
-    let hidden = usize::from(list.count) - shown_count(list);
+// The entries of a list that are shown, and how many there are besides.
+fn push_list<F: Fn(usize, &mut Text)>(list: Run, text: &mut Text, push_entry: F)
+    requires { F.IsAlwaysCallable push_entry }
+{
+    let shown = shown_count(list);
+    for i in 0..shown {
+        if i > 0 {
+            text.push(", ");
+        }
+        push_entry(usize::from(list.start) + i, text);
+    }
+    let hidden = usize::from(list.count) - shown;
     if hidden > 0 {
-        text.push(" .. ");
-        text.push_number(hidden as u64);
-        text.push(" more");
+        text.push(format_args!(" .. {hidden} more"));
     }
 }
 
 pub fn push_predecessors<C: Component>(component: &C, list: Run, text: &mut Text) {
-    let start = usize::from(list.start);
-    for i in 0..shown_count(list) {
-        if i > 0 {
-            text.push(", ");
-        }
-        match component.predecessor(start + i) {
-            Some(predecessor) => text.push_number(u64::from(predecessor.id)),
-            None => push_unknown(start + i, text),
-        }
-    }
-    push_hidden_count(list, text);
+    push_list(list, text, |n, text| match component.predecessor(n) {
+        Some(predecessor) => text.push(predecessor.id),
+        None => push_unknown(n, text),
+    });
 }
 
 pub fn push_mentions<C: Component>(component: &C, list: Run, text: &mut Text) {
-    let start = usize::from(list.start);
-    for i in 0..shown_count(list) {
-        if i > 0 {
-            text.push(", ");
-        }
-        push_mention(component, start + i, text);
-    }
-    push_hidden_count(list, text);
+    push_list(list, text, |n, text| push_mention(component, n, text));
 }
 
 pub fn push_mention<C: Component>(component: &C, n: usize, text: &mut Text) {
@@ -66,16 +58,8 @@ pub fn push_mention<C: Component>(component: &C, n: usize, text: &mut Text) {
 
 fn push_place<C: Component>(component: &C, place: Place, text: &mut Text) {
     push_value(component, place.value, text);
-    text.push(" ");
-    text.push(effect_word(place.effect));
+    text.push(format_args!(" {}", place.effect));
     if let Some(span) = place.span {
-        text.push(" ");
-        push_bounds(span.start, span.end, text);
+        text.push(format_args!(" {}..{}", span.start, span.end));
     }
-}
-
-pub fn push_bounds(start: u32, end: u32, text: &mut Text) {
-    text.push_number(u64::from(start));
-    text.push("..");
-    text.push_number(u64::from(end));
 }

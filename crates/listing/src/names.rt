@@ -10,15 +10,14 @@ const MOST_SHOWN: usize = 64;
 
 // A number that its table has no record for.
 pub fn push_unknown(n: usize, text: &mut Text) {
-    text.push("?");
-    text.push_number(n as u64);
+    text.push(format_args!("?{n}"));
 }
 
 // A value where it is mentioned: its number, and its name where it has one.
 pub fn push_value<C: Component>(component: &C, n: u16, text: &mut Text) {
     match component.value(usize::from(n)) {
         Some(value) => {
-            text.push_number(u64::from(n));
+            text.push(n);
             push_identifier(component, value.name, text);
         }
         None => push_unknown(usize::from(n), text),
@@ -82,22 +81,14 @@ fn push_bytes(bytes: &[u8], text: &mut Text) {
 // Whether a text is shown as it is. One with a backslash is not, so that an
 // escape is never taken for text.
 fn is_plain(text: &str) -> bool {
-    for c in text.chars() {
-        if c.is_control() || c == '\\' {
-            return false;
-        }
-    }
-    true
+    text.chars().all(|c| !c.is_control() && c != '\\')
 }
 
 fn push_escaped(bytes: &[u8], text: &mut Text) {
     for b in bytes {
         match *b {
-            b' '..=b'[' | b']'..=b'~' => text.push_char(char::from(*b)),
-            other => {
-                text.push("\\x");
-                text.push_hex(other);
-            }
+            b' '..=b'[' | b']'..=b'~' => text.push(char::from(*b)),
+            other => text.push(format_args!("\\x{other:02x}")),
         }
     }
 }

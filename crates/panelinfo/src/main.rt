@@ -122,9 +122,7 @@ fn print_piece(rt: &HostRuntime, text: &mut Text) -> io::Result<()> {
 fn report(rt: &HostRuntime, failure: &Failure) {
     let _ = match failure {
         Failure::Usage => eprintln!(rt; "{USAGE}"),
-        Failure::Refused(fault) => {
-            println!(rt; "refused {} at {}", fault.reason.number(), fault.place)
-        }
+        Failure::Refused(fault) => println!(rt; "{fault}"),
         Failure::Io(error) => eprintln!(rt; "panelinfo: {error}"),
     };
 }

@@ -18,62 +18,58 @@ use component::records::{
 };
 use numbers::{Numbers, TABLE_SIZE};
 
-// A place by the number that its value has now.
-fn renumbered_place(numbers: &Numbers, place: Place) -> Place
-    ensures { result ≡ place_to (number_in numbers.now.numbers) place }
-{
-    Place {
-        value: numbers.number_of(place.value),
-        ..place
+// Records by the numbers that their values have now.
+impl Numbers {
+    fn place(&self, place: Place) -> Place
+        ensures { result ≡ place_to (number_in self.now.numbers) place }
+    {
+        Place {
+            value: self.number_of(place.value),
+            ..place
+        }
+    }
+
+    fn mention(&self, mention: Mention) -> Mention
+        ensures { result ≡ mention_to (number_in self.now.numbers) mention }
+    {
+        match mention {
+            Mention::Place(place) => Mention::Place(self.place(place)),
+            Mention::Spread(place) => Mention::Spread(self.place(place)),
+            Mention::Hole => Mention::Hole,
+        }
+    }
+
+    fn phi(&self, phi: Phi) -> Phi
+        ensures { result ≡ phi_to (number_in self.now.numbers) phi }
+    {
+        Phi {
+            value: self.number_of(phi.value),
+            ..phi
+        }
+    }
+
+    fn block(&self, block: Block) -> Block
+        ensures { result ≡ block_to (number_in self.now.numbers) block }
+    {
+        Block {
+            returned: block.returned.map(|value| self.number_of(value)),
+            ..block
+        }
     }
 }
 
-// A mention by the number that its value has now.
-fn renumbered_mention(numbers: &Numbers, mention: Mention) -> Mention
-    ensures { result ≡ mention_to (number_in numbers.now.numbers) mention }
-{
-    match mention {
-        Mention::Place(place) => Mention::Place(renumbered_place(numbers, place)),
-        Mention::Spread(place) => Mention::Spread(renumbered_place(numbers, place)),
-        Mention::Hole => Mention::Hole,
-    }
-}
-
-// A phi by the number that its value has now.
-fn renumbered_phi(numbers: &Numbers, phi: Phi) -> Phi
-    ensures { result ≡ phi_to (number_in numbers.now.numbers) phi }
-{
-    Phi {
-        value: numbers.number_of(phi.value),
-        ..phi
-    }
-}
-
-// A block by the number that its returned value has now.
-fn renumbered_block(numbers: &Numbers, block: Block) -> Block
-    ensures { result ≡ block_to (number_in numbers.now.numbers) block }
-{
-    Block {
-        returned: match block.returned {
-            Some(value) => Some(numbers.number_of(value)),
-            None => None,
-        },
-        ..block
-    }
-}
+// What a value past the end of its table would be.
+const BLANK: Value = Value {
+    name: IdentifierName::Unnamed,
+    kind: ValueType::Other,
+    range: MutableRange { start: 0, end: 0 },
+};
 
 // Value `n` of a component, or a blank one past the end.
 fn value_or_blank<C: Component>(inner: &C, n: usize) -> Value
     ensures { result ≡ slice_index_or (C.Component.meaning inner.now).values n blank }
 {
-    match inner.value(n) {
-        Some(value) => value,
-        None => Value {
-            name: IdentifierName::Unnamed,
-            kind: ValueType::Other,
-            range: MutableRange { start: 0, end: 0 },
-        },
-    }
+    inner.value(n).unwrap_or(BLANK)
 }
 
 // The value that has the number `n` now.
@@ -87,14 +83,7 @@ fn value_of_number<C: Component>(inner: &C, numbers: &Numbers, n: usize) -> Valu
 fn check_number(count: usize, a: usize) -> Result<(), Fault>
     ensures { result_err result ≡ number_fault count a }
 {
-    if a < TABLE_SIZE && a < count {
-        Ok(())
-    } else {
-        Err(Fault {
-            reason: Reason::RecordNumber,
-            place: a,
-        })
-    }
+    Reason::RecordNumber.unless(a < TABLE_SIZE && a < count, a)
 }
 
 // What holds of exchanges in every component; nothing comes of it but these
@@ -125,7 +114,10 @@ impl<C: Component> Renumbered<C> {
 
     // Exchanges the numbers `a` and `b` of two values.
     fn exchange_values(&mut self, a: usize, b: usize)
-        requires { (a < 2048) × ((b < 2048) × ((a < length (C.Component.meaning self.old.inner).values) × (b < length (C.Component.meaning self.old.inner).values))) }
+        requires first { a < 2048 }
+        requires second { b < 2048 }
+        requires first_value { a < length (C.Component.meaning self.old.inner).values }
+        requires second_value { b < length (C.Component.meaning self.old.inner).values }
         ensures inner { self.new.inner ≡ self.old.inner }
         ensures meaning { layered self.new.numbers (C.Component.meaning self.new.inner) ≡ exchange a b (layered self.old.numbers (C.Component.meaning self.old.inner)) }
     {
@@ -178,6 +170,7 @@ impl<C: Component> Component for Renumbered<C> {
     }
 
     fn value(&self, n: usize) -> Option<Value> {
+        // By `then` and a closure this was tried, and its proof stayed open.
         if n < self.inner.sizes().values {
             Some(value_of_number(&self.inner, &self.numbers, n))
         } else {
@@ -190,10 +183,7 @@ impl<C: Component> Component for Renumbered<C> {
     }
 
     fn block(&self, n: usize) -> Option<Block> {
-        match self.inner.block(n) {
-            Some(block) => Some(renumbered_block(&self.numbers, block)),
-            None => None,
-        }
+        Some(self.numbers.block(self.inner.block(n)?))
     }
 
     fn predecessor(&self, n: usize) -> Option<Predecessor> {
@@ -201,10 +191,7 @@ impl<C: Component> Component for Renumbered<C> {
     }
 
     fn phi(&self, n: usize) -> Option<Phi> {
-        match self.inner.phi(n) {
-            Some(phi) => Some(renumbered_phi(&self.numbers, phi)),
-            None => None,
-        }
+        Some(self.numbers.phi(self.inner.phi(n)?))
     }
 
     fn instruction(&self, n: usize) -> Option<Instruction> {
@@ -212,9 +199,6 @@ impl<C: Component> Component for Renumbered<C> {
     }
 
     fn mention(&self, n: usize) -> Option<Mention> {
-        match self.inner.mention(n) {
-            Some(mention) => Some(renumbered_mention(&self.numbers, mention)),
-            None => None,
-        }
+        Some(self.numbers.mention(self.inner.mention(n)?))
     }
 }

@@ -29,21 +29,16 @@ fn first_number(v: usize) -> u16
 fn own_numbers() -> [u16; TABLE_SIZE]
     ensures { (v : ℕ) → number_in result v ≡ v }
 {
-    let mut table = [0u16; TABLE_SIZE];
-    for i in 0..TABLE_SIZE {
-        table[i] = first_number(i);
-    }
-    table
+    std::array::from_fn(first_number)
 }
 
 // Exchanges two entries of a table.
 fn exchange_entries(table: &mut [u16; TABLE_SIZE], i: usize, j: usize)
-    requires { (i < 2048) × (j < 2048) }
+    requires first { i < 2048 }
+    requires second { j < 2048 }
     ensures { table.new ≡ slice_set (slice_set table.old i (slice_index table.old j)) j (slice_index table.old i) }
 {
-    let first = table[i];
-    table[i] = table[j];
-    table[j] = first;
+    table.swap(i, j);
 }
 
 impl Numbers {
@@ -62,27 +57,20 @@ impl Numbers {
     pub fn number_of(&self, v: u16) -> u16
         ensures { result ≡ number_in self.now.numbers v }
     {
-        if (v as usize) < TABLE_SIZE {
-            self.numbers[v as usize]
-        } else {
-            v
-        }
+        self.numbers.get(v as usize).copied().unwrap_or(v)
     }
 
     // The inner value that has the number `n` now.
     pub fn origin_of(&self, n: usize) -> usize
         ensures { result ≡ number_in self.now.origins n }
     {
-        if n < TABLE_SIZE {
-            self.origins[n] as usize
-        } else {
-            n
-        }
+        self.origins.get(n).map_or(n, |v| *v as usize)
     }
 
     // Exchanges the numbers `a` and `b`, whichever values have them.
     pub fn exchange(&mut self, a: u16, b: u16)
-        requires { (a < 2048) × (b < 2048) }
+        requires first { a < 2048 }
+        requires second { b < 2048 }
         ensures numbers { (v : ℕ) → number_in self.new.numbers v ≡ swap a b (number_in self.old.numbers v) }
         ensures origins { (n : ℕ) → number_in self.new.origins n ≡ number_in self.old.origins (swap a b n) }
     {

@@ -5,10 +5,10 @@ ghost use Rattle.std.specs.Prelude.{◌≡◌, map, length, take, drop};
 ghost use Rattle.std.specs.List.{slice_get};
 ghost use Rattle.tables.specs.Naming.{name_in};
 
+use component::Component;
 use component::records::{
     Block, Function, Instruction, Mention, Phi, Predecessor, ReactFunctionType, Sizes, Value,
 };
-use component::{Component, pick};
 
 // A name: `length` bytes of the text from `start` on, cut at the text's end.
 #[derive(Clone, Copy)]
@@ -21,7 +21,7 @@ pub struct NameSpan {
 fn bytes_from(bytes: &[u8], start: usize) -> &[u8]
     ensures { result.now ≡ drop start bytes.now }
 {
-    &bytes[start.min(bytes.len())..]
+    bytes.get(start..).unwrap_or_default()
 }
 
 // The first `length` bytes, or all where there are fewer.
@@ -31,25 +31,27 @@ fn first_bytes(bytes: &[u8], length: usize) -> &[u8]
     &bytes[..length.min(bytes.len())]
 }
 
-// The bytes of a name.
-fn name_bytes(text: &[u8], span: NameSpan) -> &[u8]
-    ensures { result.now ≡ name_in text.now span }
-{
-    first_bytes(bytes_from(text, span.start), span.length)
-}
+impl NameSpan {
+    // The bytes of the name.
+    fn bytes<'a>(self, text: &'a [u8]) -> &'a [u8]
+        ensures { result.now ≡ name_in text.now self }
+    {
+        first_bytes(bytes_from(text, self.start), self.length)
+    }
 
-// How many bytes a name has.
-fn length_of(text: &[u8], span: NameSpan) -> usize
-    ensures { result ≡ length (name_in text.now span) }
-{
-    name_bytes(text, span).len()
-}
+    // How many bytes the name has.
+    fn len(self, text: &[u8]) -> usize
+        ensures { result ≡ length (name_in text.now self) }
+    {
+        self.bytes(text).len()
+    }
 
-// Byte `i` of a name.
-fn byte_of(text: &[u8], span: NameSpan, i: usize) -> Option<u8>
-    ensures { result ≡ slice_get (name_in text.now span) i }
-{
-    pick(name_bytes(text, span), i)
+    // Byte `i` of the name.
+    fn byte(self, text: &[u8], i: usize) -> Option<u8>
+        ensures { result ≡ slice_get (name_in text.now self) i }
+    {
+        self.bytes(text).get(i).copied()
+    }
 }
 
 // The eight tables, and the text that has the names.
@@ -67,22 +69,6 @@ pub struct Tables<'a> {
     pub mentions: &'a [Mention],
 }
 
-// How many entries each table has.
-fn counts<'a>(t: Tables<'a>) -> Sizes
-    ensures { result ≡ record { names = length t.entry.names.now; values = length t.entry.values.now; functions = length t.entry.functions.now; blocks = length t.entry.blocks.now; predecessors = length t.entry.predecessors.now; phis = length t.entry.phis.now; instructions = length t.entry.instructions.now; mentions = length t.entry.mentions.now } }
-{
-    Sizes {
-        names: t.names.len(),
-        values: t.values.len(),
-        functions: t.functions.len(),
-        blocks: t.blocks.len(),
-        predecessors: t.predecessors.len(),
-        phis: t.phis.len(),
-        instructions: t.instructions.len(),
-        mentions: t.mentions.len(),
-    }
-}
-
 impl<'a> Component for Tables<'a> {
     ghost meaning = { λ t. record { kind = t.kind; names = map (name_in t.text.now) t.names.now; values = t.values.now; functions = t.functions.now; blocks = t.blocks.now; predecessors = t.predecessors.now; phis = t.phis.now; instructions = t.instructions.now; mentions = t.mentions.now } };
 
@@ -91,48 +77,51 @@ impl<'a> Component for Tables<'a> {
     }
 
     fn sizes(&self) -> Sizes {
-        counts(*self)
+        Sizes {
+            names: self.names.len(),
+            values: self.values.len(),
+            functions: self.functions.len(),
+            blocks: self.blocks.len(),
+            predecessors: self.predecessors.len(),
+            phis: self.phis.len(),
+            instructions: self.instructions.len(),
+            mentions: self.mentions.len(),
+        }
     }
 
     fn name_length(&self, n: usize) -> Option<usize> {
-        match pick(self.names, n) {
-            Some(span) => Some(length_of(self.text, span)),
-            None => None,
-        }
+        Some(self.names.get(n)?.len(self.text))
     }
 
     fn name_byte(&self, n: usize, i: usize) -> Option<u8> {
-        match pick(self.names, n) {
-            Some(span) => byte_of(self.text, span, i),
-            None => None,
-        }
+        self.names.get(n)?.byte(self.text, i)
     }
 
     fn value(&self, n: usize) -> Option<Value> {
-        pick(self.values, n)
+        self.values.get(n).copied()
     }
 
     fn function(&self, n: usize) -> Option<Function> {
-        pick(self.functions, n)
+        self.functions.get(n).copied()
     }
 
     fn block(&self, n: usize) -> Option<Block> {
-        pick(self.blocks, n)
+        self.blocks.get(n).copied()
     }
 
     fn predecessor(&self, n: usize) -> Option<Predecessor> {
-        pick(self.predecessors, n)
+        self.predecessors.get(n).copied()
     }
 
     fn phi(&self, n: usize) -> Option<Phi> {
-        pick(self.phis, n)
+        self.phis.get(n).copied()
     }
 
     fn instruction(&self, n: usize) -> Option<Instruction> {
-        pick(self.instructions, n)
+        self.instructions.get(n).copied()
     }
 
     fn mention(&self, n: usize) -> Option<Mention> {
-        pick(self.mentions, n)
+        self.mentions.get(n).copied()
     }
 }
