@@ -12,6 +12,7 @@
 mod lines;
 mod lists;
 mod names;
+mod page;
 mod text;
 
 ghost use Rattle.std.specs.Prelude.{◌≡◌, ◌<◌, ◌≤◌, true, false, is_some};
@@ -24,108 +25,120 @@ use component::Component;
 use component::records::{Block, Function};
 pub use cursor::Cursor;
 use cursor::Line;
+use page::Page;
+use std::alloc::Global;
 pub use text::Text;
 
-// Adds the lines that come before those of the records, and answers where
-// these begin.
-pub fn push_head<C: Component>(component: &C, text: &mut Text) -> Cursor
-    ensures { First (sizes_of (C.Component.meaning component.now)) result }
-{
-    text.push(format_args!("kind {}\n", component.kind()));
-    let sizes = component.sizes();
-    lines::push_sizes(sizes, text);
-    Cursor::new(sizes)
+// A component, the lines that are to come, and the text of those that came.
+#[derive(Drop)]
+pub struct Listing<'a, C: Component> {
+    pub component: &'a C,
+    pub cursor: Cursor,
+    pub text: Text,
 }
 
-// Adds the line that comes next, of a record or a heading. Once every record
-// was listed it adds nothing, and answers false.
-pub fn push_next<C: Component>(component: &C, cursor: &mut Cursor, text: &mut Text) -> bool
-    ensures value { result ≡ is_some (line_at cursor.old) }
-    ensures passed { Passed (line_at cursor.old) cursor.old cursor.new }
-    ensures behind { Behind (C.Component.meaning component.now) (line_at cursor.old) cursor.old cursor.new }
-    ensures more { result ≡ true → left cursor.new < left cursor.old }
-    ensures complete { result ≡ false → records_left cursor.new ≡ 0 }
-{
-    match cursor.advance() {
-        Some(line) => {
-            push_line(component, line, cursor, text);
-            true
+impl<'a, C: Component> Listing<'a, C> {
+    // A listing with the lines that come before those of the records.
+    pub fn new(component: &'a C, heap: Global) -> Listing<'a, C>
+        ensures component { result.component.now ≡ component.now }
+        ensures first { First (sizes_of (C.Component.meaning component.now)) result.cursor }
+    {
+        let sizes = component.sizes();
+        let mut text = Text::new(heap);
+        text.push(format_args!("kind {}\n", component.kind()));
+        Page::new(component, &mut text).push_sizes(sizes);
+        Listing {
+            component,
+            cursor: Cursor::new(sizes),
+            text,
         }
-        None => false,
     }
-}
 
-fn push_line<C: Component>(component: &C, line: Line, cursor: &mut Cursor, text: &mut Text)
-    ensures entered { ListsEntered (C.Component.meaning component.now) line cursor.old cursor.new }
-    ensures kept { NoRecord cursor.old cursor.new }
-    ensures less { left cursor.new ≤ left cursor.old }
-{
-    match line {
-        Line::Value(n) => {
-            if let Some(value) = component.value(n) {
-                lines::push_value_line(component, n, value, text);
+    // Adds the line that comes next, of a record or a heading. Once every record
+    // was listed it adds nothing, and answers false.
+    pub fn push_next(&mut self) -> bool
+        ensures component { self.new.component.now ≡ self.old.component.now }
+        ensures value { result ≡ is_some (line_at self.old.cursor) }
+        ensures passed { Passed (line_at self.old.cursor) self.old.cursor self.new.cursor }
+        ensures behind { Behind (C.Component.meaning self.old.component.now) (line_at self.old.cursor) self.old.cursor self.new.cursor }
+        ensures more { result ≡ true → left self.new.cursor < left self.old.cursor }
+        ensures complete { result ≡ false → records_left self.new.cursor ≡ 0 }
+    {
+        match self.cursor.advance() {
+            Some(line) => {
+                self.push_line(line);
+                true
             }
+            None => false,
         }
-        Line::Function(n) => {
-            if let Some(function) = component.function(n) {
-                push_function(component, n, function, cursor, text);
-            }
-        }
-        Line::Block(n) => {
-            if let Some(block) = component.block(n) {
-                push_block(component, n, block, cursor, text);
-            }
-        }
-        Line::Phi(n) => {
-            if let Some(phi) = component.phi(n) {
-                lines::push_phi(component, n, phi, text);
-            }
-        }
-        Line::Instruction(n) => {
-            if let Some(instruction) = component.instruction(n) {
-                lines::push_instruction(component, n, instruction, text);
-            }
-        }
-        Line::OutsideFunctions => text.push("outside any function\n"),
-        Line::OutsideBlocks => text.push("outside any block\n"),
     }
-}
 
-fn push_function<C: Component>(
-    component: &C,
-    n: usize,
-    function: Function,
-    cursor: &mut Cursor,
-    text: &mut Text,
-)
-    ensures entered { Tables Same Same (Entered (Some function.blocks)) Same Same cursor.old cursor.new }
-    ensures kept { NoRecord cursor.old cursor.new }
-    ensures less { left cursor.new ≤ left cursor.old }
-{
-    lines::push_function_start(component, n, function.params, text);
-    if !cursor.blocks.enter(function.blocks) {
-        lines::push_not_in_sequence("blocks", function.blocks, text);
+    fn push_line(&mut self, line: Line)
+        ensures component { self.new.component.now ≡ self.old.component.now }
+        ensures entered { ListsEntered (C.Component.meaning self.old.component.now) line self.old.cursor self.new.cursor }
+        ensures kept { NoRecord self.old.cursor self.new.cursor }
+        ensures less { left self.new.cursor ≤ left self.old.cursor }
+    {
+        let mut page = Page::new(self.component, &mut self.text);
+        match line {
+            Line::Value(n) => {
+                if let Some(value) = self.component.value(n) {
+                    page.push_value_line(n, value);
+                }
+            }
+            Line::Function(n) => {
+                if let Some(function) = self.component.function(n) {
+                    self.push_function(n, function);
+                }
+            }
+            Line::Block(n) => {
+                if let Some(block) = self.component.block(n) {
+                    self.push_block(n, block);
+                }
+            }
+            Line::Phi(n) => {
+                if let Some(phi) = self.component.phi(n) {
+                    page.push_phi(n, phi);
+                }
+            }
+            Line::Instruction(n) => {
+                if let Some(instruction) = self.component.instruction(n) {
+                    page.push_instruction(n, instruction);
+                }
+            }
+            Line::OutsideFunctions => self.text.push("outside any function\n"),
+            Line::OutsideBlocks => self.text.push("outside any block\n"),
+        }
     }
-    text.push("\n");
-}
 
-fn push_block<C: Component>(
-    component: &C,
-    n: usize,
-    block: Block,
-    cursor: &mut Cursor,
-    text: &mut Text,
-)
-    ensures entered { Tables Same Same Same (Entered (Some block.phis)) (Entered (Some block.instructions)) cursor.old cursor.new }
-    ensures kept { NoRecord cursor.old cursor.new }
-    ensures less { left cursor.new ≤ left cursor.old }
-{
-    lines::push_block_start(component, n, block, text);
-    if !cursor.phis.enter(block.phis) {
-        lines::push_not_in_sequence("phis", block.phis, text);
+    fn push_function(&mut self, n: usize, function: Function)
+        ensures component { self.new.component.now ≡ self.old.component.now }
+        ensures entered { Tables Same Same (Entered (Some function.blocks)) Same Same self.old.cursor self.new.cursor }
+        ensures kept { NoRecord self.old.cursor self.new.cursor }
+        ensures less { left self.new.cursor ≤ left self.old.cursor }
+    {
+        let mut page = Page::new(self.component, &mut self.text);
+        page.push_function_start(n, function.params);
+        if !self.cursor.blocks.enter(function.blocks) {
+            page.push_not_in_sequence("blocks", function.blocks);
+        }
+        page.push("\n");
     }
-    if !cursor.instructions.enter(block.instructions) {
-        lines::push_not_in_sequence("instructions", block.instructions, text);
+
+    fn push_block(&mut self, n: usize, block: Block)
+        ensures component { self.new.component.now ≡ self.old.component.now }
+        ensures entered { Tables Same Same Same (Entered (Some block.phis)) (Entered (Some block.instructions)) self.old.cursor self.new.cursor }
+        ensures kept { NoRecord self.old.cursor self.new.cursor }
+        ensures less { left self.new.cursor ≤ left self.old.cursor }
+    {
+        let mut page = Page::new(self.component, &mut self.text);
+        page.push_block_start(n, block);
+        if !self.cursor.phis.enter(block.phis) {
+            page.push_not_in_sequence("phis", block.phis);
+        }
+        if !self.cursor.instructions.enter(block.instructions) {
+            page.push_not_in_sequence("instructions", block.instructions);
+        }
+        page.push("\n");
     }
-    text.push("\n");
 }

@@ -1,130 +1,116 @@
 // Records, each as a line.
-use crate::lists::{push_mention, push_mentions, push_predecessors};
-use crate::names::{push_identifier, push_unknown, push_value};
-use crate::text::Text;
+use crate::page::Page;
 use component::Component;
 use component::records::{
     Block, IdentifierName, Instruction, InstructionValue, Phi, Run, Sizes, Value,
 };
 
-pub fn push_sizes(sizes: Sizes, text: &mut Text) {
-    let tables = [
-        ("names", sizes.names),
-        ("values", sizes.values),
-        ("functions", sizes.functions),
-        ("blocks", sizes.blocks),
-        ("predecessors", sizes.predecessors),
-        ("phis", sizes.phis),
-        ("instructions", sizes.instructions),
-        ("mentions", sizes.mentions),
-    ];
-    text.push("sizes");
-    for (table, size) in tables {
-        text.push(format_args!("  {table} {size}"));
+impl<'a, C: Component> Page<'a, C> {
+    pub fn push_sizes(&mut self, sizes: Sizes) {
+        let tables = [
+            ("names", sizes.names),
+            ("values", sizes.values),
+            ("functions", sizes.functions),
+            ("blocks", sizes.blocks),
+            ("predecessors", sizes.predecessors),
+            ("phis", sizes.phis),
+            ("instructions", sizes.instructions),
+            ("mentions", sizes.mentions),
+        ];
+        self.push("sizes");
+        for (table, size) in tables {
+            self.push(format_args!("  {table} {size}"));
+        }
+        self.push("\n");
     }
-    text.push("\n");
-}
 
-pub fn push_value_line<C: Component>(component: &C, n: usize, value: Value, text: &mut Text) {
-    text.push(format_args!("value {n}"));
-    push_identifier(component, value.name, text);
-    if let IdentifierName::Promoted(_) = value.name {
-        text.push(" (promoted)");
+    pub fn push_value_line(&mut self, n: usize, value: Value) {
+        self.push(format_args!("value {n}"));
+        self.push_identifier(value.name);
+        if let IdentifierName::Promoted(_) = value.name {
+            self.push(" (promoted)");
+        }
+        let (kind, range) = (value.kind, value.range);
+        self.push(format_args!(": {kind}, range {}..{}\n", range.start, range.end));
     }
-    text.push(format_args!(
-        ": {}, range {}..{}\n",
-        value.kind, value.range.start, value.range.end
-    ));
-}
 
-pub fn push_function_start<C: Component>(component: &C, n: usize, params: Run, text: &mut Text) {
-    text.push(format_args!("function {n} ("));
-    push_mentions(component, params, text);
-    text.push(")");
-}
-
-pub fn push_block_start<C: Component>(component: &C, n: usize, block: Block, text: &mut Text) {
-    text.push(format_args!("  block {n}, id {}, from [", block.id));
-    push_predecessors(component, block.predecessors, text);
-    text.push("]");
-    if let Some(value) = block.returned {
-        text.push(", returns ");
-        push_value(component, value, text);
+    pub fn push_function_start(&mut self, n: usize, params: Run) {
+        self.push(format_args!("function {n} ("));
+        self.push_mentions(params);
+        self.push(")");
     }
-}
 
-// A list that is not expanded.
-pub fn push_not_in_sequence(table: &str, list: Run, text: &mut Text) {
-    text.push(format_args!(", {table} {}+{} (not in sequence)", list.start, list.count));
-}
-
-pub fn push_phi<C: Component>(component: &C, n: usize, phi: Phi, text: &mut Text) {
-    text.push(format_args!("    phi {n}: "));
-    push_value(component, phi.value, text);
-    text.push(" = phi [");
-    push_mentions(component, phi.operands, text);
-    text.push("]\n");
-}
-
-pub fn push_instruction<C: Component>(
-    component: &C,
-    n: usize,
-    instruction: Instruction,
-    text: &mut Text,
-) {
-    let order = instruction.order;
-    text.push(format_args!("    instruction {n}, order {order}: ["));
-    push_mentions(component, instruction.lvalues, text);
-    text.push("] = ");
-    push_instruction_value(component, instruction.value, text);
-    text.push(", operands [");
-    push_mentions(component, instruction.operands, text);
-    text.push("]\n");
-}
-
-fn push_instruction_value<C: Component>(component: &C, value: InstructionValue, text: &mut Text) {
-    match value {
-        InstructionValue::Other => text.push("other"),
-        InstructionValue::LoadGlobal => text.push("load-global"),
-        InstructionValue::LoadLocal(place) => {
-            text.push("load-local ");
-            push_mention(component, usize::from(place), text);
-        }
-        InstructionValue::FunctionExpression(n) => {
-            push_function_number(component, usize::from(n), text);
-        }
-        InstructionValue::CallExpression(callee, arguments) => {
-            push_call("call ", component, callee, arguments, text);
-        }
-        InstructionValue::MethodCall(property, arguments) => {
-            push_call("method-call ", component, property, arguments, text);
-        }
-        InstructionValue::ArrayExpression(elements) => {
-            text.push("array [");
-            push_mentions(component, elements, text);
-            text.push("]");
+    pub fn push_block_start(&mut self, n: usize, block: Block) {
+        self.push(format_args!("  block {n}, id {}, from [", block.id));
+        self.push_predecessors(block.predecessors);
+        self.push("]");
+        if let Some(value) = block.returned {
+            self.push(", returns ");
+            self.push_value(value);
         }
     }
-}
 
-fn push_function_number<C: Component>(component: &C, n: usize, text: &mut Text) {
-    text.push("function ");
-    match component.function(n) {
-        Some(_) => text.push(n),
-        None => push_unknown(n, text),
+    // A list that is not expanded.
+    pub fn push_not_in_sequence(&mut self, table: &str, list: Run) {
+        let (start, count) = (list.start, list.count);
+        self.push(format_args!(", {table} {start}+{count} (not in sequence)"));
     }
-}
 
-fn push_call<C: Component>(
-    word: &str,
-    component: &C,
-    callee: u16,
-    arguments: Run,
-    text: &mut Text,
-) {
-    text.push(word);
-    push_mention(component, usize::from(callee), text);
-    text.push(" (");
-    push_mentions(component, arguments, text);
-    text.push(")");
+    pub fn push_phi(&mut self, n: usize, phi: Phi) {
+        self.push(format_args!("    phi {n}: "));
+        self.push_value(phi.value);
+        self.push(" = phi [");
+        self.push_mentions(phi.operands);
+        self.push("]\n");
+    }
+
+    pub fn push_instruction(&mut self, n: usize, instruction: Instruction) {
+        let order = instruction.order;
+        self.push(format_args!("    instruction {n}, order {order}: ["));
+        self.push_mentions(instruction.lvalues);
+        self.push("] = ");
+        self.push_instruction_value(instruction.value);
+        self.push(", operands [");
+        self.push_mentions(instruction.operands);
+        self.push("]\n");
+    }
+
+    fn push_instruction_value(&mut self, value: InstructionValue) {
+        match value {
+            InstructionValue::Other => self.push("other"),
+            InstructionValue::LoadGlobal => self.push("load-global"),
+            InstructionValue::LoadLocal(place) => {
+                self.push("load-local ");
+                self.push_mention(usize::from(place));
+            }
+            InstructionValue::FunctionExpression(n) => self.push_function_number(usize::from(n)),
+            InstructionValue::CallExpression(callee, arguments) => {
+                self.push_call("call", callee, arguments);
+            }
+            InstructionValue::MethodCall(property, arguments) => {
+                self.push_call("method-call", property, arguments);
+            }
+            InstructionValue::ArrayExpression(elements) => {
+                self.push("array [");
+                self.push_mentions(elements);
+                self.push("]");
+            }
+        }
+    }
+
+    fn push_function_number(&mut self, n: usize) {
+        self.push("function ");
+        match self.component.function(n) {
+            Some(_) => self.push(n),
+            None => self.push_unknown(n),
+        }
+    }
+
+    fn push_call(&mut self, word: &str, callee: u16, arguments: Run) {
+        self.push(format_args!("{word} "));
+        self.push_mention(usize::from(callee));
+        self.push(" (");
+        self.push_mentions(arguments);
+        self.push(")");
+    }
 }

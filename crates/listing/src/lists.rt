@@ -2,8 +2,7 @@
 ghost use Rattle.std.specs.Prelude.{◌≡◌};
 ghost use Rattle.listing.specs.Lists.{shown};
 
-use crate::names::{push_unknown, push_value};
-use crate::text::Text;
+use crate::page::Page;
 use component::Component;
 use component::records::{Mention, Place, Run};
 
@@ -16,50 +15,52 @@ fn shown_count(list: Run) -> usize
     usize::from(list.count).min(MOST_SHOWN)
 }
 
-// The entries of a list that are shown, and how many there are besides.
-fn push_list<F: Fn(usize, &mut Text)>(list: Run, text: &mut Text, push_entry: F)
-    requires { F.IsAlwaysCallable push_entry }
-{
-    let shown = shown_count(list);
-    for i in 0..shown {
-        if i > 0 {
-            text.push(", ");
+impl<'a, C: Component> Page<'a, C> {
+    pub fn push_predecessors(&mut self, list: Run) {
+        self.push_list(list, |page, n| match page.component.predecessor(n) {
+            Some(predecessor) => page.push(predecessor.id),
+            None => page.push_unknown(n),
+        });
+    }
+
+    pub fn push_mentions(&mut self, list: Run) {
+        self.push_list(list, |page, n| page.push_mention(n));
+    }
+
+    // The entries of a list that are shown, and how many there are besides.
+    fn push_list<F: Fn(&mut Page<'a, C>, usize)>(&mut self, list: Run, push_entry: F)
+        requires { F.IsAlwaysCallable push_entry }
+    {
+        let shown = shown_count(list);
+        for i in 0..shown {
+            if i > 0 {
+                self.push(", ");
+            }
+            push_entry(self, usize::from(list.start) + i);
         }
-        push_entry(usize::from(list.start) + i, text);
-    }
-    let hidden = usize::from(list.count) - shown;
-    if hidden > 0 {
-        text.push(format_args!(" .. {hidden} more"));
-    }
-}
-
-pub fn push_predecessors<C: Component>(component: &C, list: Run, text: &mut Text) {
-    push_list(list, text, |n, text| match component.predecessor(n) {
-        Some(predecessor) => text.push(predecessor.id),
-        None => push_unknown(n, text),
-    });
-}
-
-pub fn push_mentions<C: Component>(component: &C, list: Run, text: &mut Text) {
-    push_list(list, text, |n, text| push_mention(component, n, text));
-}
-
-pub fn push_mention<C: Component>(component: &C, n: usize, text: &mut Text) {
-    match component.mention(n) {
-        Some(Mention::Place(place)) => push_place(component, place, text),
-        Some(Mention::Spread(place)) => {
-            text.push("...");
-            push_place(component, place, text);
+        let hidden = usize::from(list.count) - shown;
+        if hidden > 0 {
+            self.push(format_args!(" .. {hidden} more"));
         }
-        Some(Mention::Hole) => text.push("hole"),
-        None => push_unknown(n, text),
     }
-}
 
-fn push_place<C: Component>(component: &C, place: Place, text: &mut Text) {
-    push_value(component, place.value, text);
-    text.push(format_args!(" {}", place.effect));
-    if let Some(span) = place.span {
-        text.push(format_args!(" {}..{}", span.start, span.end));
+    pub fn push_mention(&mut self, n: usize) {
+        match self.component.mention(n) {
+            Some(Mention::Place(place)) => self.push_place(place),
+            Some(Mention::Spread(place)) => {
+                self.push("...");
+                self.push_place(place);
+            }
+            Some(Mention::Hole) => self.push("hole"),
+            None => self.push_unknown(n),
+        }
+    }
+
+    fn push_place(&mut self, place: Place) {
+        self.push_value(place.value);
+        self.push(format_args!(" {}", place.effect));
+        if let Some(span) = place.span {
+            self.push(format_args!(" {}..{}", span.start, span.end));
+        }
     }
 }

@@ -2,7 +2,7 @@
 #![tactic(auto)]
 
 use component::fault::Fault;
-use listing::Text;
+use listing::{Listing, Text};
 use packed::{Packed, max_length};
 use std::io::{Read, Write};
 use std::process::ExitCode;
@@ -102,14 +102,13 @@ fn read_input(rt: &HostRuntime) -> io::Result<Vec<u8>> {
 fn print_listing(rt: &HostRuntime, length: usize, packed: &Packed) -> io::Result<()> {
     let text_length = packed.text_length();
     println!(rt; "file {length}  text {text_length}")?;
-    let mut text = Text::new(rt.alloc());
-    let mut cursor = listing::push_head(packed, &mut text);
-    while listing::push_next(packed, &mut cursor, &mut text) {
-        if text.len() >= PIECE {
-            print_piece(rt, &mut text)?;
+    let mut listing = Listing::new(packed, rt.alloc());
+    while listing.push_next() {
+        if listing.text.len() >= PIECE {
+            print_piece(rt, &mut listing.text)?;
         }
     }
-    print_piece(rt, &mut text)
+    print_piece(rt, &mut listing.text)
 }
 
 fn print_piece(rt: &HostRuntime, text: &mut Text) -> io::Result<()> {

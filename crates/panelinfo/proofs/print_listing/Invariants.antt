@@ -1,5 +1,5 @@
 use Rattle.cursor.specs.Left.{left}
 use Rattle.panelinfo.proofs.print_listing.Given as goal
 
-abbrev pub decreases-loop-cursor : goal.decreases-loop-cursor
-decreases-loop-cursor l = left l.cursor
+abbrev pub decreases-loop-listing : goal.decreases-loop-listing
+decreases-loop-listing l = left l.listing.cursor
