@@ -1,6 +1,6 @@
 -- Exchanges of two numbers: of places in a list, and of values in a component.
 use Rattle.std.proofs.Common.{◌≡◌, ℕ, ◌<◌, ◌≤◌, ltb, List, [], ◌∷◌, map, length, get_or, Some, None, Option, sym, refl, ap, ◌∙◌, inl, inr, arith}
-use mathlib.Core.List.{map-map}
+use Rattle.std.proofs.lemmas.Simd.{map-map}
 use std.Path.{fun_ext}
 use Rattle.std.specs.List.{swap as exchanged, slice_get}
 use Rattle.std.proofs.lemmas.List.{same_lists}

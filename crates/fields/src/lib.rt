@@ -1,6 +1,7 @@
 // The fields of the packed form, and its records out of their bytes. A reader
 // is handed the part of the file that a record takes, from its mark on. A byte
-// past a part's end reads 0, so that every reader is total.
+// past a part's end reads 0, so that every reader is total. `part` and `at` stay two
+// parameters, as a slice and a place in it are in `part[at]`.
 #![tactic(auto)]
 
 ghost use Rattle.std.specs.Prelude.{◌≡◌, ◌+◌, ◌^◌, ◌<◌, slice_index};

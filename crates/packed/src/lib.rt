@@ -81,6 +81,7 @@ impl<'a> Packed<'a> {
         ensures { MatchOption result ((extent_in self.now.layout table).count ≤ n) (λ s. (n < (extent_in self.now.layout table).count) × (s.now ≡ record_part (size_of table) self.now.bytes.now (extent_in self.now.layout table) n)) }
     {
         let extent = self.layout.extent(table);
+        // Not by `then`: a closure would not know that the place is in bounds.
         if n < extent.count as usize {
             let size = table.record_size();
             Some(part_at(self.bytes, extent.start as usize + size * n, size))

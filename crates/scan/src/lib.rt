@@ -27,6 +27,7 @@ fn check_table(
     let size = table.record_size();
     let mark = table.mark();
     let mut found = earlier;
+    // By number, as the laws count: a place is one product of it.
     for i in 0..extent.count {
         let at = extent.start as usize + size * i as usize;
         check_mark(bytes, at, mark)?;
