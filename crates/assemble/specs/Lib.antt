@@ -2,3 +2,4 @@ pub mod Numbers
 pub mod Tables
 pub mod Layout
 pub mod Files
+pub mod Lending

@@ -1,6 +1,7 @@
 -- What each table's records have in common.
-use Rattle.std.specs.Prelude.{ℕ, List, [], ◌∷◌}
+use Rattle.std.specs.Prelude.{◌≡◌, ◌≢◌, ℕ, List, [], ◌∷◌, codes, Result, MatchResult}
 use Rattle.assemble.specs.declared.table.Table.{Table}
+use Rattle.assemble.specs.declared.table.UnknownRecord.{UnknownRecord}
 use Rattle.assemble.specs.declared.table.Table.TheVariants.{Names, Values, Functions, Blocks, Predecessors, Phis, Instructions, Mentions}
 
 -- the two characters before a record
@@ -24,3 +25,18 @@ width_of Predecessors = 2
 width_of Phis = 6
 width_of Instructions = 22
 width_of Mentions = 16
+
+-- what one of its records is called
+abbrev pub word_of : Table → List ℕ
+word_of Names = codes "name"
+word_of Values = codes "value"
+word_of Functions = codes "function"
+word_of Blocks = codes "block"
+word_of Predecessors = codes "predecessor"
+word_of Phis = codes "phi"
+word_of Instructions = codes "instruction"
+word_of Mentions = codes "mention"
+
+-- the table whose records the word names, or the error where it names none
+abbrev pub IsNamed : List ℕ → Result Table UnknownRecord → Type 0
+IsNamed word r = MatchResult r (λ t. word ≡ word_of t) (λ _. (t : Table) → word ≢ word_of t)

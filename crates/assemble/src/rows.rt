@@ -1,8 +1,8 @@
 // One table as it grows: its records' bytes, and how many records they are.
-ghost use Rattle.std.specs.Prelude.{◌≡◌, ◌+◌, [], ◌++◌, length, Err, OnOk};
+ghost use Rattle.std.specs.Prelude.{◌≡◌, ◌≢◌, ◌<◌, ◌+◌, [], ◌++◌, length, Err, OnOk, IsOkUnless};
 ghost use Rattle.assemble.specs.Layout.{record_after, table_of};
 ghost use Rattle.assemble.specs.Tables.{mark_of, width_of};
-ghost use Rattle.assemble.specs.declared.error.BuildError.TheVariants.{TableFull};
+ghost use Rattle.assemble.specs.declared.error.BuildError.TheVariants.{Memory, RawWidth, TableFull};
 
 use super::bytes::put_mark;
 use super::error::BuildError;
@@ -32,6 +32,7 @@ impl Rows {
         ensures bytes { OnOk result (self.new.bytes.items ≡ record_after self.old.bytes.items «record».now) }
         ensures count { OnOk result (self.new.count ≡ self.old.count + 1) }
         ensures full { self.old.count ≡ 65535 → result ≡ Err (TableFull (table_of «record».now)) }
+        ensures room { self.old.count < 65535 → IsOkUnless result Memory }
     {
         if self.count == u16::MAX {
             return Err(BuildError::TableFull(record.table()));
@@ -53,6 +54,9 @@ impl Rows {
         ensures bytes { OnOk result (self.new.bytes.items ≡ self.old.bytes.items ++ mark_of table ++ fields.now) }
         ensures count { OnOk result (self.new.count ≡ self.old.count + 1) }
         ensures width { OnOk result (length fields.now ≡ width_of table) }
+        ensures misfit { length fields.now ≢ width_of table → result ≡ Err (RawWidth table) }
+        ensures full { length fields.now ≡ width_of table → self.old.count ≡ 65535 → result ≡ Err (TableFull table) }
+        ensures room { length fields.now ≡ width_of table → self.old.count < 65535 → IsOkUnless result Memory }
     {
         if fields.len() != table.width() {
             return Err(BuildError::RawWidth(table));
