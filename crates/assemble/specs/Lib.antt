@@ -1,3 +1,4 @@
+pub mod Codes
 pub mod Numbers
 pub mod Tables
 pub mod Layout

@@ -77,14 +77,14 @@ impl PanelBuilder {
     }
 
     // Appends a record to its table.
-    pub fn add(&mut self, record: &Record) -> Result<(), BuildError>
-        ensures bytes { OnOk result (vec_items (rows_of self.new (table_of «record».now)).bytes ≡ record_after (vec_items (rows_of self.old (table_of «record».now)).bytes) «record».now) }
-        ensures count { OnOk result ((rows_of self.new (table_of «record».now)).count ≡ (rows_of self.old (table_of «record».now)).count + 1) }
-        ensures rest { self.new ≡ with_rows self.old (table_of «record».now) (rows_of self.new (table_of «record».now)) }
-        ensures full { (rows_of self.old (table_of «record».now)).count ≡ 65535 → result ≡ Err (TableFull (table_of «record».now)) }
-        ensures room { (rows_of self.old (table_of «record».now)).count < 65535 → IsOkUnless result Memory }
+    pub fn add(&mut self, row: &Record) -> Result<(), BuildError>
+        ensures bytes { OnOk result (vec_items (rows_of self.new (table_of row.now)).bytes ≡ record_after (vec_items (rows_of self.old (table_of row.now)).bytes) row.now) }
+        ensures count { OnOk result ((rows_of self.new (table_of row.now)).count ≡ (rows_of self.old (table_of row.now)).count + 1) }
+        ensures rest { self.new ≡ with_rows self.old (table_of row.now) (rows_of self.new (table_of row.now)) }
+        ensures full { (rows_of self.old (table_of row.now)).count ≡ 65535 → result ≡ Err (TableFull (table_of row.now)) }
+        ensures room { (rows_of self.old (table_of row.now)).count < 65535 → IsOkUnless result Memory }
     {
-        self.rows_mut(record.table()).add(record)
+        self.rows_mut(row.table()).add(row)
     }
 
     // Appends a record by the bytes behind its mark, whatever they mean.
@@ -185,8 +185,5 @@ fn short(n: usize) -> Result<u16, BuildError>
     ensures fits { n ≤ 65535 → result ≡ Ok n }
     ensures full { 65535 < n → result ≡ Err TextFull }
 {
-    if n > TEXT_MAX {
-        return Err(BuildError::TextFull);
-    }
-    Ok(n as u16)
+    u16::try_from(n).map_err(|_| BuildError::TextFull)
 }

@@ -28,16 +28,16 @@ impl Rows {
     }
 
     // Appends a record, unless the count is the largest that a file can say.
-    pub fn add(&mut self, record: &Record) -> Result<(), BuildError>
-        ensures bytes { OnOk result (self.new.bytes.items ≡ record_after self.old.bytes.items «record».now) }
+    pub fn add(&mut self, row: &Record) -> Result<(), BuildError>
+        ensures bytes { OnOk result (self.new.bytes.items ≡ record_after self.old.bytes.items row.now) }
         ensures count { OnOk result (self.new.count ≡ self.old.count + 1) }
-        ensures full { self.old.count ≡ 65535 → result ≡ Err (TableFull (table_of «record».now)) }
+        ensures full { self.old.count ≡ 65535 → result ≡ Err (TableFull (table_of row.now)) }
         ensures room { self.old.count < 65535 → IsOkUnless result Memory }
     {
         if self.count == u16::MAX {
-            return Err(BuildError::TableFull(record.table()));
+            return Err(BuildError::TableFull(row.table()));
         }
-        record.write(&mut self.bytes)?;
+        row.write(&mut self.bytes)?;
         self.count += 1;
         Ok(())
     }
