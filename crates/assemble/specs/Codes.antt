@@ -1,5 +1,5 @@
 -- The codes of the kinds of instructions.
-use Rattle.std.specs.Prelude.{◌≡◌, ◌≢◌, ◌<◌, ◌≤◌, ℕ, Result, MatchResult}
+use Rattle.std.specs.Prelude.{◌≡◌, ◌≢◌, ℕ, Result, MatchResult}
 use Rattle.assemble.specs.declared.codes.InstructionKind.{InstructionKind}
 use Rattle.assemble.specs.declared.codes.InstructionKind.TheVariants.{Other, LoadLocal, Function, Call, MethodCall, Array, LoadGlobal}
 use Rattle.assemble.specs.declared.codes.UnknownKind.{UnknownKind}

@@ -1,6 +1,6 @@
 -- The bytes of a packed file: the header with the table sizes, the tables, and
 -- the text.
-use Rattle.std.specs.Prelude.{◌≡◌, ℕ, List, [], ◌∷◌, ◌++◌, vec_items}
+use Rattle.std.specs.Prelude.{◌≡◌, ℕ, List, [], ◌++◌, codes, vec_items}
 use Rattle.std.specs.Global.{Vec}
 use Rattle.assemble.specs.Numbers.{le16}
 use Rattle.assemble.specs.declared.rows.Rows.{Rows}
@@ -47,7 +47,7 @@ Empty b =
 -- PC, eight counts, the text's length, the kind
 abbrev pub header_after : List ℕ → PanelBuilder → ℕ → List ℕ
 header_after xs b text =
-    xs ++ (80 ∷ 67 ∷ []) ++ le16 b.names.count ++ le16 b.values.count ++ le16 b.functions.count
+    xs ++ codes "PC" ++ le16 b.names.count ++ le16 b.values.count ++ le16 b.functions.count
     ++ le16 b.blocks.count ++ le16 b.predecessors.count ++ le16 b.phis.count
     ++ le16 b.instructions.count ++ le16 b.mentions.count ++ le16 text ++ le16 b.kind
 
@@ -59,4 +59,4 @@ tables_after xs b =
 
 -- and the text behind TX
 abbrev pub file_after : List ℕ → PanelBuilder → ℕ → List ℕ
-file_after xs b text = tables_after (header_after xs b text) b ++ (84 ∷ 88 ∷ []) ++ vec_items b.text
+file_after xs b text = tables_after (header_after xs b text) b ++ codes "TX" ++ vec_items b.text

@@ -1,19 +1,19 @@
 -- What each table's records have in common.
-use Rattle.std.specs.Prelude.{◌≡◌, ◌≢◌, ℕ, List, [], ◌∷◌, codes, Result, MatchResult}
+use Rattle.std.specs.Prelude.{◌≡◌, ◌≢◌, ℕ, List, codes, Result, MatchResult}
 use Rattle.assemble.specs.declared.table.Table.{Table}
 use Rattle.assemble.specs.declared.table.UnknownRecord.{UnknownRecord}
 use Rattle.assemble.specs.declared.table.Table.TheVariants.{Names, Values, Functions, Blocks, Predecessors, Phis, Instructions, Mentions}
 
 -- the two characters before a record
 abbrev pub mark_of : Table → List ℕ
-mark_of Names = 78 ∷ 77 ∷ []
-mark_of Values = 86 ∷ 65 ∷ []
-mark_of Functions = 70 ∷ 78 ∷ []
-mark_of Blocks = 66 ∷ 76 ∷ []
-mark_of Predecessors = 80 ∷ 82 ∷ []
-mark_of Phis = 80 ∷ 72 ∷ []
-mark_of Instructions = 73 ∷ 78 ∷ []
-mark_of Mentions = 77 ∷ 69 ∷ []
+mark_of Names = codes "NM"
+mark_of Values = codes "VA"
+mark_of Functions = codes "FN"
+mark_of Blocks = codes "BL"
+mark_of Predecessors = codes "PR"
+mark_of Phis = codes "PH"
+mark_of Instructions = codes "IN"
+mark_of Mentions = codes "ME"
 
 -- how many bytes a record has behind its mark
 abbrev pub width_of : Table → ℕ

@@ -18,7 +18,8 @@ use std::alloc::{AllocError, Global};
 pub const TEXT_MAX: usize = 65535;
 
 // What a file will hold. After an error it may hold part of a record, and is
-// of no more use.
+// of no more use. The tables are eight fields and no array, since the loan of an
+// array's element gets no proof.
 #[derive(Drop)]
 pub struct PanelBuilder {
     kind: u16,
@@ -129,6 +130,8 @@ impl PanelBuilder {
         self.names.add(&Record::Name(NameRecord { start, length }))
     }
 
+    // A line to a table, as the header has them: a loop over the tables would need
+    // an invariant, and is no plainer.
     fn put_header(&self, out: &mut Vec<u8>, text: u16) -> Result<(), AllocError>
         ensures { OnOk result (out.new.items ≡ header_after out.old.items self.now text) }
     {

@@ -1,4 +1,6 @@
-// One table as it grows: its records' bytes, and how many records they are.
+// One table as it grows: its records' bytes, and how many records they are. The
+// count is no length of the bytes: it stands in the header, and what it counts
+// has a width for each table.
 ghost use Rattle.std.specs.Prelude.{◌≡◌, ◌≢◌, ◌<◌, ◌+◌, [], ◌++◌, length, Err, OnOk, IsOkUnless};
 ghost use Rattle.assemble.specs.Layout.{record_after, table_of};
 ghost use Rattle.assemble.specs.Tables.{mark_of, width_of};
