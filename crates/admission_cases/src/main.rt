@@ -199,6 +199,8 @@ fn read_bytes(heap: Global, digits: &str) -> anyhow::Result<Vec<u8>> {
         .try_collect(heap)
 }
 
+// As in `packed_cases`: a crate for these few lines would be no plainer, since it would
+// have to take a command by a closure.
 fn run(rt: &HostRuntime) -> anyhow::Result<()> {
     let text = io::read_to_string(rt.alloc(), rt.stdin())?;
     let mut cases = Cases::new(rt.alloc());

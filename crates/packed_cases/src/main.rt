@@ -134,6 +134,8 @@ fn print_opened(rt: &HostRuntime, title: &str, packed: &Packed) -> anyhow::Resul
     Ok(())
 }
 
+// As in `admission_cases`: a crate for these few lines would be no plainer, since it would
+// have to take a command by a closure.
 fn run(rt: &HostRuntime) -> anyhow::Result<()> {
     let text = io::read_to_string(rt.alloc(), rt.stdin())?;
     let mut cases = Cases::new(rt.alloc());

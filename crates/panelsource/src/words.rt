@@ -131,7 +131,7 @@ impl<'a> Words<'a> {
 }
 
 // The word has to be the keyword.
-pub fn check<'a>(keyword: &'static str, word: &'a str) -> Result<(), Problem<'a>> {
+pub(crate) fn check<'a>(keyword: &'static str, word: &'a str) -> Result<(), Problem<'a>> {
     if word == keyword {
         Ok(())
     } else {
@@ -140,7 +140,7 @@ pub fn check<'a>(keyword: &'static str, word: &'a str) -> Result<(), Problem<'a>
 }
 
 // What a part of a word says, where `what` should stand.
-pub fn parse<'a, T: FromStr>(
+pub(crate) fn parse<'a, T: FromStr>(
     what: &'static str,
     word: &'a str,
     part: &str,
@@ -152,7 +152,7 @@ where
 }
 
 // The range that a word is, as `5..30`.
-pub fn range_of<'a>(word: &'a str) -> Result<Range, Problem<'a>> {
+pub(crate) fn range_of<'a>(word: &'a str) -> Result<Range, Problem<'a>> {
     let (start, end) = halves(word, "..");
     Ok(Range {
         start: parse(RANGE, word, start)?,
