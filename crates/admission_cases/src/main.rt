@@ -17,17 +17,18 @@
 #![tactic(auto)]
 
 use admission::admit;
-use anyhow::anyhow;
+use anyhow::bail;
 use component::fault::Fault;
 use packed::Packed;
 use panelsource::source::parse_source;
 use std::alloc::{AllocError, Global};
-use std::io::Read;
+use std::io;
 
 #[derive(Drop)]
 struct Cases {
+    // The statements of a base that are still being read.
+    source: Option<String>,
     base: String,
-    in_source: bool,
     title: String,
     statements: String,
 }
@@ -35,71 +36,47 @@ struct Cases {
 impl Cases {
     fn new(heap: Global) -> Cases {
         Cases {
+            source: None,
             base: String::new(heap),
-            in_source: false,
             title: String::new(heap),
             statements: String::new(heap),
         }
     }
 
     fn take_line(&mut self, rt: &HostRuntime, line: &str) -> anyhow::Result<()> {
-        if self.in_source {
-            return self.take_source(rt.alloc(), line);
+        if let Some(source) = self.source.take() {
+            return self.take_source(rt.alloc(), source, line);
         }
         let (command, rest) = first_word(line);
         match command {
-            "source" => self.start_source(),
+            "source" => self.source = Some(String::new(rt.alloc())),
             "case" => self.start_case(rt.alloc(), rest)?,
             "clear" => self.statements.clear(),
-            "add" => self.add(rt.alloc(), rest)?,
+            "add" => add(rt.alloc(), &mut self.statements, rest)?,
             "edit" => self.edit(rt.alloc(), rest)?,
             "drop" => self.drop_one(rt.alloc(), rest)?,
             "admit" => self.admit_statements(rt)?,
             "packed" => self.admit_packed(rt, rest)?,
-            _ => return Err(anyhow!("no such command")),
+            _ => bail!("no such command"),
         }
         Ok(())
     }
 
-    fn start_source(&mut self) {
-        self.in_source = true;
-        self.statements.clear();
-    }
-
     // One line more of the base, or its end.
-    fn take_source(&mut self, heap: Global, line: &str) -> anyhow::Result<()> {
-        if line != "end" {
-            return self.add(heap, line);
+    fn take_source(&mut self, heap: Global, mut source: String, line: &str) -> anyhow::Result<()> {
+        if line == "end" {
+            self.statements = source.clone()?;
+            self.base = source;
+            return Ok(());
         }
-        self.in_source = false;
-        self.base = self.statements.clone()?;
+        add(heap, &mut source, line)?;
+        self.source = Some(source);
         Ok(())
     }
 
     fn start_case(&mut self, heap: Global, title: &str) -> Result<(), AllocError> {
         self.title = String::from_str(heap, title)?;
         self.statements = self.base.clone()?;
-        Ok(())
-    }
-
-    fn add(&mut self, heap: Global, statement: &str) -> anyhow::Result<()> {
-        let (word, rest) = first_word(statement);
-        if word == "each" {
-            return self.add_each(heap, rest);
-        }
-        push_line(&mut self.statements, statement)?;
-        Ok(())
-    }
-
-    // `FROM TO STATEMENT`
-    fn add_each(&mut self, heap: Global, words: &str) -> anyhow::Result<()> {
-        let (from, words) = first_word(words);
-        let (to, statement) = first_word(words);
-        for n in from.parse::<usize>()?..to.parse::<usize>()? {
-            let number = format!(in heap; "{n}")?;
-            let line = statement.replace(heap, '@', number.as_str())?;
-            push_line(&mut self.statements, line.as_str())?;
-        }
         Ok(())
     }
 
@@ -128,33 +105,29 @@ impl Cases {
         number: usize,
         statement: &str,
     ) -> anyhow::Result<()> {
+        let found = self
+            .statements
+            .lines()
+            .enumerate()
+            .filter(|(_, line)| table_of(line) == table)
+            .nth(number);
+        let Some((place, _)) = found else {
+            bail!("no such statement");
+        };
         let mut statements = String::new(heap);
-        let mut passed: usize = 0;
-        for line in self.statements.lines() {
-            let mut kept = line;
-            if table_of(line) == table {
-                if passed == number {
-                    kept = statement;
-                }
-                passed = passed.saturating_add(1);
-            }
-            push_line(&mut statements, kept)?;
-        }
-        if passed <= number {
-            return Err(anyhow!("no such statement"));
+        for (n, line) in self.statements.lines().enumerate() {
+            push_line(&mut statements, if n == place { statement } else { line })?;
         }
         self.statements = statements;
         Ok(())
     }
 
     fn admit_statements(&self, rt: &HostRuntime) -> anyhow::Result<()> {
-        match parse_source(rt.alloc(), self.statements.as_str()) {
-            Ok(panel) => {
-                let file = panel.finish(rt.alloc())?;
-                self.print_outcome(rt, file.as_slice())
-            }
-            Err(_) => Err(anyhow!("the statements have an error")),
-        }
+        let Ok(panel) = parse_source(rt.alloc(), self.statements.as_str()) else {
+            bail!("the statements have an error");
+        };
+        let file = panel.finish(rt.alloc())?;
+        self.print_outcome(rt, file.as_slice())
     }
 
     fn admit_packed(&self, rt: &HostRuntime, digits: &str) -> anyhow::Result<()> {
@@ -180,6 +153,28 @@ fn open_and_admit(file: &[u8]) -> Result<(), Fault> {
     admit(&packed)
 }
 
+// Appends a statement, or those that `each` stands for.
+fn add(heap: Global, statements: &mut String, statement: &str) -> anyhow::Result<()> {
+    let (word, rest) = first_word(statement);
+    if word == "each" {
+        return add_each(heap, statements, rest);
+    }
+    push_line(statements, statement)?;
+    Ok(())
+}
+
+// `FROM TO STATEMENT`
+fn add_each(heap: Global, statements: &mut String, words: &str) -> anyhow::Result<()> {
+    let (from, words) = first_word(words);
+    let (to, statement) = first_word(words);
+    for n in from.parse::<usize>()?..to.parse::<usize>()? {
+        let number = format!(in heap; "{n}")?;
+        let line = statement.replace(heap, '@', number.as_str())?;
+        push_line(statements, line.as_str())?;
+    }
+    Ok(())
+}
+
 fn first_word(line: &str) -> (&str, &str) {
     line.split_once(' ').unwrap_or((line, ""))
 }
@@ -197,23 +192,23 @@ fn push_line(text: &mut String, line: &str) -> Result<(), AllocError> {
 
 // The bytes that pairs of hexadecimal digits are.
 fn read_bytes(heap: Global, digits: &str) -> anyhow::Result<Vec<u8>> {
-    let mut bytes = Vec::new(heap);
-    for pair in digits.as_bytes().chunks(2) {
-        let byte = u8::from_str_radix(std::str::from_utf8(pair)?, 16)?;
-        bytes.push(byte)?;
-    }
-    Ok(bytes)
+    digits
+        .as_bytes()
+        .chunks(2)
+        .map(|pair| Ok(u8::from_str_radix(std::str::from_utf8(pair)?, 16)?))
+        .try_collect(heap)
 }
 
+// As in `packed_cases`: a crate for these few lines would be no plainer, since it would
+// have to take a command by a closure.
 fn run(rt: &HostRuntime) -> anyhow::Result<()> {
-    let mut bytes = Vec::new(rt.alloc());
-    rt.stdin().read_to_end(&mut bytes)?;
-    let text = std::str::from_utf8(bytes.as_slice())?;
+    let text = io::read_to_string(rt.alloc(), rt.stdin())?;
     let mut cases = Cases::new(rt.alloc());
-    for line in text.lines() {
-        if !line.is_empty() && !line.starts_with('#') {
-            cases.take_line(rt, line)?;
-        }
+    let commands = text
+        .lines()
+        .filter(|line| !line.is_empty() && !line.starts_with('#'));
+    for line in commands {
+        cases.take_line(rt, line)?;
     }
     Ok(())
 }

@@ -1,6 +1,6 @@
 -- The bytes of a packed file: the header with the table sizes, the tables, and
 -- the text.
-use Rattle.std.specs.Prelude.{◌≡◌, ℕ, List, [], ◌∷◌, ◌++◌, vec_items}
+use Rattle.std.specs.Prelude.{◌≡◌, ℕ, List, [], ◌++◌, codes, vec_items}
 use Rattle.std.specs.Global.{Vec}
 use Rattle.assemble.specs.Numbers.{le16}
 use Rattle.assemble.specs.declared.rows.Rows.{Rows}
@@ -20,20 +20,20 @@ rows_of b table.Instructions = b.instructions
 rows_of b table.Mentions = b.mentions
 
 abbrev pub with_rows : PanelBuilder → Table → Rows → PanelBuilder
-with_rows b table.Names r = record { kind = b.kind; names = r; values = b.values; functions = b.functions; blocks = b.blocks; predecessors = b.predecessors; phis = b.phis; instructions = b.instructions; mentions = b.mentions; text = b.text }
-with_rows b table.Values r = record { kind = b.kind; names = b.names; values = r; functions = b.functions; blocks = b.blocks; predecessors = b.predecessors; phis = b.phis; instructions = b.instructions; mentions = b.mentions; text = b.text }
-with_rows b table.Functions r = record { kind = b.kind; names = b.names; values = b.values; functions = r; blocks = b.blocks; predecessors = b.predecessors; phis = b.phis; instructions = b.instructions; mentions = b.mentions; text = b.text }
-with_rows b table.Blocks r = record { kind = b.kind; names = b.names; values = b.values; functions = b.functions; blocks = r; predecessors = b.predecessors; phis = b.phis; instructions = b.instructions; mentions = b.mentions; text = b.text }
-with_rows b table.Predecessors r = record { kind = b.kind; names = b.names; values = b.values; functions = b.functions; blocks = b.blocks; predecessors = r; phis = b.phis; instructions = b.instructions; mentions = b.mentions; text = b.text }
-with_rows b table.Phis r = record { kind = b.kind; names = b.names; values = b.values; functions = b.functions; blocks = b.blocks; predecessors = b.predecessors; phis = r; instructions = b.instructions; mentions = b.mentions; text = b.text }
-with_rows b table.Instructions r = record { kind = b.kind; names = b.names; values = b.values; functions = b.functions; blocks = b.blocks; predecessors = b.predecessors; phis = b.phis; instructions = r; mentions = b.mentions; text = b.text }
-with_rows b table.Mentions r = record { kind = b.kind; names = b.names; values = b.values; functions = b.functions; blocks = b.blocks; predecessors = b.predecessors; phis = b.phis; instructions = b.instructions; mentions = r; text = b.text }
+with_rows b table.Names r = record b { names = r }
+with_rows b table.Values r = record b { values = r }
+with_rows b table.Functions r = record b { functions = r }
+with_rows b table.Blocks r = record b { blocks = r }
+with_rows b table.Predecessors r = record b { predecessors = r }
+with_rows b table.Phis r = record b { phis = r }
+with_rows b table.Instructions r = record b { instructions = r }
+with_rows b table.Mentions r = record b { mentions = r }
 
 abbrev pub with_kind : PanelBuilder → ℕ → PanelBuilder
-with_kind b k = record { kind = k; names = b.names; values = b.values; functions = b.functions; blocks = b.blocks; predecessors = b.predecessors; phis = b.phis; instructions = b.instructions; mentions = b.mentions; text = b.text }
+with_kind b k = record b { kind = k }
 
 abbrev pub with_text : PanelBuilder → Vec ℕ → PanelBuilder
-with_text b t = record { kind = b.kind; names = b.names; values = b.values; functions = b.functions; blocks = b.blocks; predecessors = b.predecessors; phis = b.phis; instructions = b.instructions; mentions = b.mentions; text = t }
+with_text b t = record b { text = t }
 
 abbrev pub Blank : Rows → Type 0
 Blank r = (vec_items r.bytes ≡ []) × (r.count ≡ 0)
@@ -47,7 +47,7 @@ Empty b =
 -- PC, eight counts, the text's length, the kind
 abbrev pub header_after : List ℕ → PanelBuilder → ℕ → List ℕ
 header_after xs b text =
-    xs ++ (80 ∷ 67 ∷ []) ++ le16 b.names.count ++ le16 b.values.count ++ le16 b.functions.count
+    xs ++ codes "PC" ++ le16 b.names.count ++ le16 b.values.count ++ le16 b.functions.count
     ++ le16 b.blocks.count ++ le16 b.predecessors.count ++ le16 b.phis.count
     ++ le16 b.instructions.count ++ le16 b.mentions.count ++ le16 text ++ le16 b.kind
 
@@ -59,4 +59,4 @@ tables_after xs b =
 
 -- and the text behind TX
 abbrev pub file_after : List ℕ → PanelBuilder → ℕ → List ℕ
-file_after xs b text = tables_after (header_after xs b text) b ++ (84 ∷ 88 ∷ []) ++ vec_items b.text
+file_after xs b text = tables_after (header_after xs b text) b ++ codes "TX" ++ vec_items b.text

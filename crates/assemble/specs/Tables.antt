@@ -1,18 +1,19 @@
 -- What each table's records have in common.
-use Rattle.std.specs.Prelude.{ℕ, List, [], ◌∷◌}
+use Rattle.std.specs.Prelude.{◌≡◌, ◌≢◌, ℕ, List, codes, Result, MatchResult}
 use Rattle.assemble.specs.declared.table.Table.{Table}
+use Rattle.assemble.specs.declared.table.UnknownRecord.{UnknownRecord}
 use Rattle.assemble.specs.declared.table.Table.TheVariants.{Names, Values, Functions, Blocks, Predecessors, Phis, Instructions, Mentions}
 
 -- the two characters before a record
 abbrev pub mark_of : Table → List ℕ
-mark_of Names = 78 ∷ 77 ∷ []
-mark_of Values = 86 ∷ 65 ∷ []
-mark_of Functions = 70 ∷ 78 ∷ []
-mark_of Blocks = 66 ∷ 76 ∷ []
-mark_of Predecessors = 80 ∷ 82 ∷ []
-mark_of Phis = 80 ∷ 72 ∷ []
-mark_of Instructions = 73 ∷ 78 ∷ []
-mark_of Mentions = 77 ∷ 69 ∷ []
+mark_of Names = codes "NM"
+mark_of Values = codes "VA"
+mark_of Functions = codes "FN"
+mark_of Blocks = codes "BL"
+mark_of Predecessors = codes "PR"
+mark_of Phis = codes "PH"
+mark_of Instructions = codes "IN"
+mark_of Mentions = codes "ME"
 
 -- how many bytes a record has behind its mark
 abbrev pub width_of : Table → ℕ
@@ -24,3 +25,18 @@ width_of Predecessors = 2
 width_of Phis = 6
 width_of Instructions = 22
 width_of Mentions = 16
+
+-- what one of its records is called
+abbrev pub word_of : Table → List ℕ
+word_of Names = codes "name"
+word_of Values = codes "value"
+word_of Functions = codes "function"
+word_of Blocks = codes "block"
+word_of Predecessors = codes "predecessor"
+word_of Phis = codes "phi"
+word_of Instructions = codes "instruction"
+word_of Mentions = codes "mention"
+
+-- the table whose records the word names, or the error where it names none
+abbrev pub IsNamed : List ℕ → Result Table UnknownRecord → Type 0
+IsNamed word r = MatchResult r (λ t. word ≡ word_of t) (λ _. (t : Table) → word ≢ word_of t)

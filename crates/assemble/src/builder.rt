@@ -1,6 +1,8 @@
 // Builds a packed panel file, one record at a time.
-ghost use Rattle.std.specs.Prelude.{◌≡◌, ◌+◌, ◌<◌, [], ◌++◌, length, IfOk, Err, vec_items, vec_len, OnOk};
-ghost use Rattle.assemble.specs.declared.error.BuildError.TheVariants.{TableFull, TextFull};
+ghost use Rattle.std.specs.Prelude.{◌≡◌, ◌≢◌, ◌+◌, ◌<◌, ◌≤◌, [], ◌++◌, length, IfOk, Ok, Err, vec_items, vec_len, OnOk, IsOkUnless};
+ghost use Rattle.assemble.specs.declared.error.BuildError.TheVariants.{Memory, RawWidth, TableFull, TextFull};
+ghost use Rattle.std.specs.Borrow.{sem};
+ghost use Rattle.assemble.specs.Lending.{LendsRows};
 ghost use Rattle.assemble.specs.Files.{Empty, rows_of, with_rows, with_kind, with_text, header_after, tables_after, file_after};
 ghost use Rattle.assemble.specs.Layout.{name_after, record_after, table_of};
 ghost use Rattle.assemble.specs.Tables.{mark_of, width_of};
@@ -16,7 +18,8 @@ use std::alloc::{AllocError, Global};
 pub const TEXT_MAX: usize = 65535;
 
 // What a file will hold. After an error it may hold part of a record, and is
-// of no more use.
+// of no more use. The tables are eight fields and no array, since the loan of an
+// array's element gets no proof.
 #[derive(Drop)]
 pub struct PanelBuilder {
     kind: u16,
@@ -57,23 +60,32 @@ impl PanelBuilder {
         self.kind = code;
     }
 
-    // Appends a record to its table.
-    pub fn add(&mut self, record: &Record) -> Result<(), BuildError>
-        ensures bytes { OnOk result (vec_items (rows_of self.new (table_of «record».now)).bytes ≡ record_after (vec_items (rows_of self.old (table_of «record».now)).bytes) «record».now) }
-        ensures count { OnOk result ((rows_of self.new (table_of «record».now)).count ≡ (rows_of self.old (table_of «record».now)).count + 1) }
-        ensures rest { self.new ≡ with_rows self.old (table_of «record».now) (rows_of self.new (table_of «record».now)) }
-        ensures full { (rows_of self.old (table_of «record».now)).count ≡ 65535 → result ≡ Err (TableFull (table_of «record».now)) }
+    // The table of that name, to be changed.
+    fn rows_mut(&mut self, table: Table) -> &mut Rows
+        ensures* lends { sem 𝓛 (LendsRows self.entry table result) }
+        ensures now { result.now ≡ rows_of self.old table }
     {
-        match record {
-            Record::Name(_) => self.names.add(record),
-            Record::Value(_) => self.values.add(record),
-            Record::Function(_) => self.functions.add(record),
-            Record::Block(_) => self.blocks.add(record),
-            Record::Predecessor(_) => self.predecessors.add(record),
-            Record::Phi(_) => self.phis.add(record),
-            Record::Instruction(_) => self.instructions.add(record),
-            Record::Mention(_) => self.mentions.add(record),
+        match table {
+            Table::Names => &mut self.names,
+            Table::Values => &mut self.values,
+            Table::Functions => &mut self.functions,
+            Table::Blocks => &mut self.blocks,
+            Table::Predecessors => &mut self.predecessors,
+            Table::Phis => &mut self.phis,
+            Table::Instructions => &mut self.instructions,
+            Table::Mentions => &mut self.mentions,
         }
+    }
+
+    // Appends a record to its table.
+    pub fn add(&mut self, row: &Record) -> Result<(), BuildError>
+        ensures bytes { OnOk result (vec_items (rows_of self.new (table_of row.now)).bytes ≡ record_after (vec_items (rows_of self.old (table_of row.now)).bytes) row.now) }
+        ensures count { OnOk result ((rows_of self.new (table_of row.now)).count ≡ (rows_of self.old (table_of row.now)).count + 1) }
+        ensures rest { self.new ≡ with_rows self.old (table_of row.now) (rows_of self.new (table_of row.now)) }
+        ensures full { (rows_of self.old (table_of row.now)).count ≡ 65535 → result ≡ Err (TableFull (table_of row.now)) }
+        ensures room { (rows_of self.old (table_of row.now)).count < 65535 → IsOkUnless result Memory }
+    {
+        self.rows_mut(row.table()).add(row)
     }
 
     // Appends a record by the bytes behind its mark, whatever they mean.
@@ -81,18 +93,12 @@ impl PanelBuilder {
         ensures bytes { OnOk result (vec_items (rows_of self.new table).bytes ≡ vec_items (rows_of self.old table).bytes ++ mark_of table ++ fields.now) }
         ensures count { OnOk result ((rows_of self.new table).count ≡ (rows_of self.old table).count + 1) }
         ensures width { OnOk result (length fields.now ≡ width_of table) }
+        ensures misfit { length fields.now ≢ width_of table → result ≡ Err (RawWidth table) }
+        ensures full { length fields.now ≡ width_of table → (rows_of self.old table).count ≡ 65535 → result ≡ Err (TableFull table) }
+        ensures room { length fields.now ≡ width_of table → (rows_of self.old table).count < 65535 → IsOkUnless result Memory }
         ensures rest { self.new ≡ with_rows self.old table (rows_of self.new table) }
     {
-        match table {
-            Table::Names => self.names.add_raw(table, fields),
-            Table::Values => self.values.add_raw(table, fields),
-            Table::Functions => self.functions.add_raw(table, fields),
-            Table::Blocks => self.blocks.add_raw(table, fields),
-            Table::Predecessors => self.predecessors.add_raw(table, fields),
-            Table::Phis => self.phis.add_raw(table, fields),
-            Table::Instructions => self.instructions.add_raw(table, fields),
-            Table::Mentions => self.mentions.add_raw(table, fields),
-        }
+        self.rows_mut(table).add_raw(table, fields)
     }
 
     // Appends bytes to the text.
@@ -100,6 +106,7 @@ impl PanelBuilder {
         ensures bytes { OnOk result (self.new.text.items ≡ self.old.text.items ++ bytes.now) }
         ensures rest { self.new ≡ with_text self.old self.new.text }
         ensures full { 65535 < vec_len self.old.text + length bytes.now → result ≡ Err TextFull }
+        ensures room { vec_len self.old.text + length bytes.now ≤ 65535 → IsOkUnless result Memory }
     {
         if self.text.len().saturating_add(bytes.len()) > TEXT_MAX {
             return Err(BuildError::TextFull);
@@ -114,6 +121,8 @@ impl PanelBuilder {
         ensures name { OnOk result (self.new.names.bytes.items ≡ name_after self.old.names.bytes.items (record { start = vec_len self.old.text; length = length word.now })) }
         ensures count { OnOk result (self.new.names.count ≡ self.old.names.count + 1) }
         ensures rest { self.new ≡ with_text (with_rows self.old Table.Names self.new.names) self.new.text }
+        ensures text_full { 65535 < vec_len self.old.text + length word.now → result ≡ Err TextFull }
+        ensures room { vec_len self.old.text + length word.now ≤ 65535 → self.old.names.count < 65535 → IsOkUnless result Memory }
     {
         let start = short(self.text.len())?;
         let length = short(word.len())?;
@@ -121,6 +130,8 @@ impl PanelBuilder {
         self.names.add(&Record::Name(NameRecord { start, length }))
     }
 
+    // A line to a table, as the header has them: a loop over the tables would need
+    // an invariant, and is no plainer.
     fn put_header(&self, out: &mut Vec<u8>, text: u16) -> Result<(), AllocError>
         ensures { OnOk result (out.new.items ≡ header_after out.old.items self.now text) }
     {
@@ -161,7 +172,9 @@ impl PanelBuilder {
 
     // The packed file.
     pub fn finish(&self, heap: Global) -> Result<Vec<u8>, BuildError>
-        ensures { IfOk result (λ v. v.items ≡ file_after [] self.now (vec_len self.now.text)) }
+        ensures file { IfOk result (λ v. v.items ≡ file_after [] self.now (vec_len self.now.text)) }
+        ensures full { 65535 < vec_len self.now.text → result ≡ Err TextFull }
+        ensures room { vec_len self.now.text ≤ 65535 → IsOkUnless result Memory }
     {
         let text = short(self.text.len())?;
         let mut out = Vec::new(heap);
@@ -172,10 +185,8 @@ impl PanelBuilder {
 
 // A place in the text, or a length, as a field of two bytes.
 fn short(n: usize) -> Result<u16, BuildError>
-    ensures { IfOk result (λ x. x ≡ n) }
+    ensures fits { n ≤ 65535 → result ≡ Ok n }
+    ensures full { 65535 < n → result ≡ Err TextFull }
 {
-    if n > TEXT_MAX {
-        return Err(BuildError::TextFull);
-    }
-    Ok(n as u16)
+    u16::try_from(n).map_err(|_| BuildError::TextFull)
 }

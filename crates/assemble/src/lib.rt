@@ -3,6 +3,7 @@
 
 pub mod builder;
 pub mod bytes;
+pub mod codes;
 pub mod error;
 pub mod records;
 pub mod rows;

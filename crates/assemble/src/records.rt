@@ -1,5 +1,7 @@
 // The records of a packed file, field by field. A field is the number that is
-// written, so a record can also hold what means nothing.
+// written, so a record can also hold what means nothing. So codes are numbers
+// and no enums (`codes` has these), and what may be absent is a number and its
+// value and no `Option`.
 ghost use Rattle.std.specs.Prelude.{◌≡◌, ◌++◌, OnOk};
 ghost use Rattle.assemble.specs.Layout.{record_after, table_of, run_after, range_after, name_after, value_after, function_after, block_after, predecessor_after, phi_after, instruction_after, mention_after};
 
@@ -50,7 +52,7 @@ impl NameRecord {
     pub fn write(&self, out: &mut Vec<u8>) -> Result<(), AllocError>
         ensures { OnOk result (out.new.items ≡ name_after out.old.items self.now) }
     {
-        put_mark(out, b"NM")?;
+        put_mark(out, &Table::Names.mark())?;
         put16(out, self.start)?;
         put16(out, self.length)
     }
@@ -69,7 +71,7 @@ impl ValueRecord {
     pub fn write(&self, out: &mut Vec<u8>) -> Result<(), AllocError>
         ensures { OnOk result (out.new.items ≡ value_after out.old.items self.now) }
     {
-        put_mark(out, b"VA")?;
+        put_mark(out, &Table::Values.mark())?;
         put16(out, self.form)?;
         put16(out, self.name)?;
         put16(out, self.kind)?;
@@ -88,7 +90,7 @@ impl FunctionRecord {
     pub fn write(&self, out: &mut Vec<u8>) -> Result<(), AllocError>
         ensures { OnOk result (out.new.items ≡ function_after out.old.items self.now) }
     {
-        put_mark(out, b"FN")?;
+        put_mark(out, &Table::Functions.mark())?;
         self.params.write(out)?;
         self.blocks.write(out)
     }
@@ -110,7 +112,7 @@ impl BlockRecord {
     pub fn write(&self, out: &mut Vec<u8>) -> Result<(), AllocError>
         ensures { OnOk result (out.new.items ≡ block_after out.old.items self.now) }
     {
-        put_mark(out, b"BL")?;
+        put_mark(out, &Table::Blocks.mark())?;
         put16(out, self.id)?;
         self.predecessors.write(out)?;
         self.phis.write(out)?;
@@ -130,7 +132,7 @@ impl PredecessorRecord {
     pub fn write(&self, out: &mut Vec<u8>) -> Result<(), AllocError>
         ensures { OnOk result (out.new.items ≡ predecessor_after out.old.items self.now) }
     {
-        put_mark(out, b"PR")?;
+        put_mark(out, &Table::Predecessors.mark())?;
         put16(out, self.id)
     }
 }
@@ -146,7 +148,7 @@ impl PhiRecord {
     pub fn write(&self, out: &mut Vec<u8>) -> Result<(), AllocError>
         ensures { OnOk result (out.new.items ≡ phi_after out.old.items self.now) }
     {
-        put_mark(out, b"PH")?;
+        put_mark(out, &Table::Phis.mark())?;
         put16(out, self.value)?;
         self.operands.write(out)
     }
@@ -169,7 +171,7 @@ impl InstructionRecord {
     pub fn write(&self, out: &mut Vec<u8>) -> Result<(), AllocError>
         ensures { OnOk result (out.new.items ≡ instruction_after out.old.items self.now) }
     {
-        put_mark(out, b"IN")?;
+        put_mark(out, &Table::Instructions.mark())?;
         put16(out, self.kind)?;
         put32(out, self.order)?;
         self.lvalues.write(out)?;
@@ -195,7 +197,7 @@ impl MentionRecord {
     pub fn write(&self, out: &mut Vec<u8>) -> Result<(), AllocError>
         ensures { OnOk result (out.new.items ≡ mention_after out.old.items self.now) }
     {
-        put_mark(out, b"ME")?;
+        put_mark(out, &Table::Mentions.mark())?;
         put16(out, self.value)?;
         put16(out, self.form)?;
         put16(out, self.effect)?;
@@ -233,7 +235,8 @@ impl Record {
         }
     }
 
-    // Appends the record, its mark first.
+    // Appends the record, its mark first. A trait over the eight types is no
+    // plainer: what is read of a source is any record, so this match would stay.
     pub fn write(&self, out: &mut Vec<u8>) -> Result<(), AllocError>
         ensures { OnOk result (out.new.items ≡ record_after out.old.items self.now) }
     {

@@ -1,8 +1,10 @@
-// One table as it grows: its records' bytes, and how many records they are.
-ghost use Rattle.std.specs.Prelude.{◌≡◌, ◌+◌, [], ◌++◌, length, Err, OnOk};
+// One table as it grows: its records' bytes, and how many records they are. The
+// count is no length of the bytes: it stands in the header, and what it counts
+// has a width for each table.
+ghost use Rattle.std.specs.Prelude.{◌≡◌, ◌≢◌, ◌<◌, ◌+◌, [], ◌++◌, length, Err, OnOk, IsOkUnless};
 ghost use Rattle.assemble.specs.Layout.{record_after, table_of};
 ghost use Rattle.assemble.specs.Tables.{mark_of, width_of};
-ghost use Rattle.assemble.specs.declared.error.BuildError.TheVariants.{TableFull};
+ghost use Rattle.assemble.specs.declared.error.BuildError.TheVariants.{Memory, RawWidth, TableFull};
 
 use super::bytes::put_mark;
 use super::error::BuildError;
@@ -28,15 +30,16 @@ impl Rows {
     }
 
     // Appends a record, unless the count is the largest that a file can say.
-    pub fn add(&mut self, record: &Record) -> Result<(), BuildError>
-        ensures bytes { OnOk result (self.new.bytes.items ≡ record_after self.old.bytes.items «record».now) }
+    pub fn add(&mut self, row: &Record) -> Result<(), BuildError>
+        ensures bytes { OnOk result (self.new.bytes.items ≡ record_after self.old.bytes.items row.now) }
         ensures count { OnOk result (self.new.count ≡ self.old.count + 1) }
-        ensures full { self.old.count ≡ 65535 → result ≡ Err (TableFull (table_of «record».now)) }
+        ensures full { self.old.count ≡ 65535 → result ≡ Err (TableFull (table_of row.now)) }
+        ensures room { self.old.count < 65535 → IsOkUnless result Memory }
     {
         if self.count == u16::MAX {
-            return Err(BuildError::TableFull(record.table()));
+            return Err(BuildError::TableFull(row.table()));
         }
-        record.write(&mut self.bytes)?;
+        row.write(&mut self.bytes)?;
         self.count += 1;
         Ok(())
     }
@@ -53,6 +56,9 @@ impl Rows {
         ensures bytes { OnOk result (self.new.bytes.items ≡ self.old.bytes.items ++ mark_of table ++ fields.now) }
         ensures count { OnOk result (self.new.count ≡ self.old.count + 1) }
         ensures width { OnOk result (length fields.now ≡ width_of table) }
+        ensures misfit { length fields.now ≢ width_of table → result ≡ Err (RawWidth table) }
+        ensures full { length fields.now ≡ width_of table → self.old.count ≡ 65535 → result ≡ Err (TableFull table) }
+        ensures room { length fields.now ≡ width_of table → self.old.count < 65535 → IsOkUnless result Memory }
     {
         if fields.len() != table.width() {
             return Err(BuildError::RawWidth(table));

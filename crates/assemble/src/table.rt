@@ -1,10 +1,12 @@
 // The eight tables of a panel, in the order in which a packed file has them.
 ghost use Rattle.std.specs.Prelude.{◌≡◌};
-ghost use Rattle.assemble.specs.Tables.{mark_of, width_of};
+ghost use Rattle.assemble.specs.Tables.{IsNamed, mark_of, width_of, word_of};
 
+use std::error::Error;
 use std::fmt;
+use std::str::FromStr;
 
-#[derive(Clone, Copy, Debug)]
+#[derive(Clone, Copy, Debug, PartialEq, Eq)]
 pub enum Table {
     Names,
     Values,
@@ -50,7 +52,9 @@ impl Table {
     }
 
     // What one of its records is called.
-    pub fn word(self) -> &'static str {
+    pub fn word(self) -> &'static str
+        ensures { result.now ≡ word_of self }
+    {
         match self {
             Table::Names => "name",
             Table::Values => "value",
@@ -62,22 +66,40 @@ impl Table {
             Table::Mentions => "mention",
         }
     }
+}
 
-    // The table whose records are called so.
-    pub fn named(word: &str) -> Option<Table> {
+// A word that no record is called by.
+#[derive(Clone, Copy, Debug, PartialEq, Eq)]
+pub struct UnknownRecord;
+
+// The table whose records are called so.
+impl FromStr for Table {
+    type Err = UnknownRecord;
+
+    ghost from_str_gives = { IsNamed };
+
+    fn from_str(word: &str) -> Result<Table, UnknownRecord> {
         match word {
-            "name" => Some(Table::Names),
-            "value" => Some(Table::Values),
-            "function" => Some(Table::Functions),
-            "block" => Some(Table::Blocks),
-            "predecessor" => Some(Table::Predecessors),
-            "phi" => Some(Table::Phis),
-            "instruction" => Some(Table::Instructions),
-            "mention" => Some(Table::Mentions),
-            _ => None,
+            "name" => Ok(Table::Names),
+            "value" => Ok(Table::Values),
+            "function" => Ok(Table::Functions),
+            "block" => Ok(Table::Blocks),
+            "predecessor" => Ok(Table::Predecessors),
+            "phi" => Ok(Table::Phis),
+            "instruction" => Ok(Table::Instructions),
+            "mention" => Ok(Table::Mentions),
+            _ => Err(UnknownRecord),
         }
     }
 }
+
+impl fmt::Display for UnknownRecord {
+    fn fmt<W: fmt::Write>(&self, f: &mut fmt::Formatter<W>) -> fmt::Result {
+        f.write_str("no record is called so")
+    }
+}
+
+impl Error for UnknownRecord {}
 
 impl fmt::Display for Table {
     fn fmt<W: fmt::Write>(&self, f: &mut fmt::Formatter<W>) -> fmt::Result {

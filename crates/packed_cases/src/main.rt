@@ -10,19 +10,19 @@
 //   list         prints the listing of a file that opens
 #![tactic(auto)]
 
-use anyhow::anyhow;
+use anyhow::{anyhow, bail};
 use component::Component;
 use component::fault::Fault;
 use listing::{Text, push_head, push_next};
 use packed::Packed;
 use panelsource::source::parse_source;
 use std::alloc::{AllocError, Global};
-use std::io::Read;
+use std::io;
 
 #[derive(Drop)]
 struct Cases {
-    source: String,
-    in_source: bool,
+    // The source of a base that is still being read.
+    source: Option<String>,
     base: Vec<u8>,
     title: String,
     file: Vec<u8>,
@@ -31,8 +31,7 @@ struct Cases {
 impl Cases {
     fn new(heap: Global) -> Cases {
         Cases {
-            source: String::new(heap),
-            in_source: false,
+            source: None,
             base: Vec::new(heap),
             title: String::new(heap),
             file: Vec::new(heap),
@@ -40,36 +39,35 @@ impl Cases {
     }
 
     fn take_line(&mut self, rt: &HostRuntime, line: &str) -> anyhow::Result<()> {
-        if self.in_source {
-            return self.take_source(rt.alloc(), line);
+        if let Some(source) = self.source.take() {
+            return self.take_source(rt.alloc(), source, line);
         }
         let (command, rest) = line.split_once(' ').unwrap_or((line, ""));
         match command {
-            "source" => self.in_source = true,
+            "source" => self.source = Some(String::new(rt.alloc())),
             "case" => self.start_case(rt.alloc(), rest)?,
             "set" => self.set_bytes(rest)?,
             "cut" => self.file.truncate(rest.parse::<usize>()?),
             "grow" => self.grow(rest.parse::<usize>()?)?,
             "open" => self.print_outcome(rt)?,
             "list" => self.print_listing(rt)?,
-            _ => return Err(anyhow!("no such command")),
+            _ => bail!("no such command"),
         }
         Ok(())
     }
 
     // One line more of the base's source, or its end.
-    fn take_source(&mut self, heap: Global, line: &str) -> anyhow::Result<()> {
-        if line != "end" {
-            self.source.push_str(line)?;
-            self.source.push('\n')?;
+    fn take_source(&mut self, heap: Global, mut source: String, line: &str) -> anyhow::Result<()> {
+        if line == "end" {
+            let Ok(panel) = parse_source(heap, source.as_str()) else {
+                bail!("the source has an error");
+            };
+            self.base = panel.finish(heap)?;
             return Ok(());
         }
-        self.in_source = false;
-        match parse_source(heap, self.source.as_str()) {
-            Ok(panel) => self.base = panel.finish(heap)?,
-            Err(_) => return Err(anyhow!("the source has an error")),
-        }
-        self.source.clear();
+        source.push_str(line)?;
+        source.push('\n')?;
+        self.source = Some(source);
         Ok(())
     }
 
@@ -82,26 +80,20 @@ impl Cases {
     // `AT HEX HEX ..`
     fn set_bytes(&mut self, words: &str) -> anyhow::Result<()> {
         let mut words = words.split_whitespace();
-        let Some(first) = words.next() else {
-            return Err(anyhow!("set wants a place"));
-        };
-        let mut at = first.parse::<usize>()?;
+        let at = words.next().ok_or(anyhow!("set wants a place"))?;
+        let mut places = self.file.iter_mut().skip(at.parse::<usize>()?);
         for word in words {
             let byte = u8::from_str_radix(word, 16)?;
-            match self.file.get_mut(at) {
+            match places.next() {
                 Some(place) => *place = byte,
-                None => return Err(anyhow!("set past the end")),
+                None => bail!("set past the end"),
             }
-            at = at.saturating_add(1);
         }
         Ok(())
     }
 
     fn grow(&mut self, n: usize) -> Result<(), AllocError> {
-        for _ in 0..n {
-            self.file.push(0)?;
-        }
-        Ok(())
+        self.file.resize(self.file.len().saturating_add(n), 0)
     }
 
     fn print_outcome(&self, rt: &HostRuntime) -> anyhow::Result<()> {
@@ -118,7 +110,7 @@ impl Cases {
 
     fn print_listing(&self, rt: &HostRuntime) -> anyhow::Result<()> {
         let Ok(packed) = Packed::open(self.file.as_slice()) else {
-            return Err(anyhow!("nothing to list"));
+            bail!("nothing to list");
         };
         let mut text = Text::new(rt.alloc());
         let mut cursor = push_head(&packed, &mut text);
@@ -142,15 +134,16 @@ fn print_opened(rt: &HostRuntime, title: &str, packed: &Packed) -> anyhow::Resul
     Ok(())
 }
 
+// As in `admission_cases`: a crate for these few lines would be no plainer, since it would
+// have to take a command by a closure.
 fn run(rt: &HostRuntime) -> anyhow::Result<()> {
-    let mut bytes = Vec::new(rt.alloc());
-    rt.stdin().read_to_end(&mut bytes)?;
-    let text = std::str::from_utf8(bytes.as_slice())?;
+    let text = io::read_to_string(rt.alloc(), rt.stdin())?;
     let mut cases = Cases::new(rt.alloc());
-    for line in text.lines() {
-        if !line.is_empty() && !line.starts_with('#') {
-            cases.take_line(rt, line)?;
-        }
+    let commands = text
+        .lines()
+        .filter(|line| !line.is_empty() && !line.starts_with('#'));
+    for line in commands {
+        cases.take_line(rt, line)?;
     }
     Ok(())
 }

@@ -2,7 +2,8 @@
 // each field is read.
 use component::Component;
 use component::records::{
-    Block, Function, IdentifierName, Instruction, InstructionValue, Mention, Phi, Place, Run, Value,
+    Block, Function, IdentifierName, Instruction, InstructionValue, Mention, Phi, Place,
+    Predecessor, Run, Value,
 };
 
 fn of_run(list: Run) -> u64 {
@@ -23,15 +24,16 @@ fn of_function(function: Function) -> u64 {
 }
 
 fn of_block(block: Block) -> u64 {
-    let returned = match block.returned {
-        Some(v) => 1 ^ (v as u64) << 1,
-        None => 0,
-    };
+    let returned = block.returned.map_or(0, |v| 1 ^ (v as u64) << 1);
     block.id as u64
         ^ returned
         ^ of_run(block.predecessors)
         ^ of_run(block.phis) << 8
         ^ of_run(block.instructions) << 16
+}
+
+fn of_predecessor(predecessor: Predecessor) -> u64 {
+    predecessor.id as u64
 }
 
 fn of_phi(phi: Phi) -> u64 {
@@ -60,10 +62,9 @@ fn of_instruction(instruction: Instruction) -> u64 {
 }
 
 fn of_place(place: Place) -> u64 {
-    let span = match place.span {
-        Some(span) => span.start as u64 ^ (span.end as u64) << 32,
-        None => 0,
-    };
+    let span = place
+        .span
+        .map_or(0, |span| span.start as u64 ^ (span.end as u64) << 32);
     place.value as u64 ^ (place.effect as u64) << 16 ^ span
 }
 
@@ -75,103 +76,48 @@ fn of_mention(mention: Mention) -> u64 {
     }
 }
 
-fn ask_name<C: Component>(component: &C, n: usize) -> u64 {
-    let mut sum = 0u64;
-    if let Some(length) = component.name_length(n) {
-        for i in 0..length {
-            if let Some(byte) = component.name_byte(n, i) {
-                sum = sum.wrapping_add(byte as u64);
-            }
-        }
-    }
-    sum
+// The sum of what the answers to a question about each number below `size` come
+// to.
+fn ask<C: Component, R, Q: Fn(&C, usize) -> Option<R>, D: Fn(R) -> u64>(
+    component: &C,
+    size: usize,
+    question: Q,
+    digest: D,
+) -> u64
+    requires question { Q.IsAlwaysCallable question }
+    requires digest { D.IsAlwaysCallable digest }
+{
+    (0..size).fold(0u64, |sum, n| match question(component, n) {
+        Some(answer) => sum.wrapping_add(digest(answer)),
+        None => sum,
+    })
 }
 
-fn ask_names<C: Component>(component: &C) -> u64 {
-    let mut sum = 0u64;
-    for n in 0..component.sizes().names {
-        sum = sum.wrapping_add(ask_name(component, n));
-    }
-    sum
-}
-
-fn ask_values<C: Component>(component: &C) -> u64 {
-    let mut sum = 0u64;
-    for n in 0..component.sizes().values {
-        if let Some(value) = component.value(n) {
-            sum = sum.wrapping_add(of_value(value));
-        }
-    }
-    sum
-}
-
-fn ask_functions<C: Component>(component: &C) -> u64 {
-    let mut sum = 0u64;
-    for n in 0..component.sizes().functions {
-        if let Some(function) = component.function(n) {
-            sum = sum.wrapping_add(of_function(function));
-        }
-    }
-    sum
-}
-
-fn ask_blocks<C: Component>(component: &C) -> u64 {
-    let mut sum = 0u64;
-    for n in 0..component.sizes().blocks {
-        if let Some(block) = component.block(n) {
-            sum = sum.wrapping_add(of_block(block));
-        }
-    }
-    sum
-}
-
-fn ask_predecessors<C: Component>(component: &C) -> u64 {
-    let mut sum = 0u64;
-    for n in 0..component.sizes().predecessors {
-        if let Some(predecessor) = component.predecessor(n) {
-            sum = sum.wrapping_add(predecessor.id as u64);
-        }
-    }
-    sum
-}
-
-fn ask_phis<C: Component>(component: &C) -> u64 {
-    let mut sum = 0u64;
-    for n in 0..component.sizes().phis {
-        if let Some(phi) = component.phi(n) {
-            sum = sum.wrapping_add(of_phi(phi));
-        }
-    }
-    sum
-}
-
-fn ask_instructions<C: Component>(component: &C) -> u64 {
-    let mut sum = 0u64;
-    for n in 0..component.sizes().instructions {
-        if let Some(instruction) = component.instruction(n) {
-            sum = sum.wrapping_add(of_instruction(instruction));
-        }
-    }
-    sum
-}
-
-fn ask_mentions<C: Component>(component: &C) -> u64 {
-    let mut sum = 0u64;
-    for n in 0..component.sizes().mentions {
-        if let Some(mention) = component.mention(n) {
-            sum = sum.wrapping_add(of_mention(mention));
-        }
-    }
-    sum
+// The sum of a name's bytes, if there is such a name.
+fn ask_name<C: Component>(component: &C, n: usize) -> Option<u64> {
+    let length = component.name_length(n)?;
+    let byte = |component: &C, i| component.name_byte(n, i);
+    Some(ask(component, length, byte, u64::from))
 }
 
 pub fn ask_all<C: Component>(component: &C) -> u64 {
-    ask_names(component)
-        .wrapping_add(ask_values(component))
-        .wrapping_add(ask_functions(component))
-        .wrapping_add(ask_blocks(component))
-        .wrapping_add(ask_predecessors(component))
-        .wrapping_add(ask_phis(component))
-        .wrapping_add(ask_instructions(component))
-        .wrapping_add(ask_mentions(component))
+    let sizes = component.sizes();
+    ask(component, sizes.names, ask_name, |sum| sum)
+        .wrapping_add(ask(component, sizes.values, C::value, of_value))
+        .wrapping_add(ask(component, sizes.functions, C::function, of_function))
+        .wrapping_add(ask(component, sizes.blocks, C::block, of_block))
+        .wrapping_add(ask(
+            component,
+            sizes.predecessors,
+            C::predecessor,
+            of_predecessor,
+        ))
+        .wrapping_add(ask(component, sizes.phis, C::phi, of_phi))
+        .wrapping_add(ask(
+            component,
+            sizes.instructions,
+            C::instruction,
+            of_instruction,
+        ))
+        .wrapping_add(ask(component, sizes.mentions, C::mention, of_mention))
 }

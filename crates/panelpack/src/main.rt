@@ -2,7 +2,7 @@
 // standard output.
 #![tactic(auto)]
 
-use anyhow::anyhow;
+use anyhow::bail;
 use panelsource::source::parse_source;
 use std::io::Write;
 use std::process::ExitCode;
@@ -47,7 +47,7 @@ fn run(rt: &HostRuntime) -> anyhow::Result<()> {
     let heap = rt.alloc();
     if let Some(word) = env::args(rt)?.nth(1) {
         if word.as_str() != "--help" {
-            return Err(anyhow!("panelpack takes no words but --help"));
+            bail!("panelpack takes no words but --help");
         }
         rt.print(HELP)?;
         return Ok(());

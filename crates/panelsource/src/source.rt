@@ -1,6 +1,7 @@
 // The source language: one statement to a line.
-use super::words::{Code, Problem, Words};
+use super::words::{Code, Problem, Words, check, parse, range_of};
 use assemble::builder::PanelBuilder;
+use assemble::codes::{Effect, InstructionKind, MentionForm, NameForm, PanelKind, ValueType};
 use assemble::error::BuildError;
 use assemble::records::{
     BlockRecord, FunctionRecord, InstructionRecord, MentionRecord, NameRecord, PhiRecord,
@@ -10,10 +11,9 @@ use assemble::table::Table;
 use std::alloc::Global;
 use std::error::Error;
 use std::fmt;
-use std::fmt::Display;
 
 // What is wrong, and the number of the line, from 1.
-#[derive(Clone, Copy)]
+#[derive(Clone, Copy, Debug)]
 pub struct SourceError<'a> {
     pub line: usize,
     pub problem: Problem<'a>,
@@ -27,18 +27,11 @@ impl<'a> fmt::Display for SourceError<'a> {
     }
 }
 
-impl<'a> fmt::Debug for SourceError<'a> {
-    fn fmt<W: fmt::Write>(&self, f: &mut fmt::Formatter<W>) -> fmt::Result {
-        fmt::Display::fmt(self, f)
-    }
-}
-
 impl<'a> Error for SourceError<'a> {}
 
 // What a line asks of the builder.
 #[derive(Drop)]
 enum Statement<'a> {
-    Nothing,
     Panel(u16),
     Name(&'a str),
     Text(&'a str),
@@ -47,53 +40,54 @@ enum Statement<'a> {
     RawText(Vec<u8>),
 }
 
-const UNNAMED: u16 = 0;
+const PANELS: [Code; 3] = [
+    ("component", PanelKind::Component as u16),
+    ("hook", PanelKind::Hook as u16),
+    ("other", PanelKind::Other as u16),
+];
 
-const LOAD_LOCAL: u16 = 1;
-
-const FUNCTION: u16 = 2;
-
-const CALL: u16 = 3;
-
-const METHOD_CALL: u16 = 4;
-
-const ARRAY: u16 = 5;
-
-const HOLE: u16 = 2;
-
-const PANELS: [Code; 3] = [("component", 0), ("hook", 1), ("other", 2)];
-
-const FORMS: [Code; 3] = [("unnamed", UNNAMED), ("named", 1), ("promoted", 2)];
+const FORMS: [Code; 3] = [
+    ("unnamed", NameForm::Unnamed as u16),
+    ("named", NameForm::Named as u16),
+    ("promoted", NameForm::Promoted as u16),
+];
 
 const TYPES: [Code; 5] = [
-    ("other", 0),
-    ("use-state", 1),
-    ("set-state", 2),
-    ("use-ref", 3),
-    ("effect-hook", 4),
+    ("other", ValueType::Other as u16),
+    ("use-state", ValueType::UseState as u16),
+    ("set-state", ValueType::SetState as u16),
+    ("use-ref", ValueType::UseRef as u16),
+    ("effect-hook", ValueType::EffectHook as u16),
 ];
 
 const KINDS: [Code; 7] = [
-    ("other", 0),
-    ("load-local", LOAD_LOCAL),
-    ("function", FUNCTION),
-    ("call", CALL),
-    ("method-call", METHOD_CALL),
-    ("array", ARRAY),
-    ("load-global", 6),
+    ("other", InstructionKind::Other as u16),
+    ("load-local", InstructionKind::LoadLocal as u16),
+    ("function", InstructionKind::Function as u16),
+    ("call", InstructionKind::Call as u16),
+    ("method-call", InstructionKind::MethodCall as u16),
+    ("array", InstructionKind::Array as u16),
+    ("load-global", InstructionKind::LoadGlobal as u16),
 ];
 
-const MENTION_FORMS: [Code; 3] = [("place", 0), ("spread", 1), ("hole", HOLE)];
+const MENTION_FORMS: [Code; 3] = [
+    ("place", MentionForm::Place as u16),
+    ("spread", MentionForm::Spread as u16),
+    ("hole", MentionForm::Hole as u16),
+];
 
 const EFFECTS: [Code; 8] = [
-    ("unknown", 0),
-    ("freeze", 1),
-    ("read", 2),
-    ("capture", 3),
-    ("mutate-iterator?", 4),
-    ("mutate?", 5),
-    ("mutate", 6),
-    ("store", 7),
+    ("unknown", Effect::Unknown as u16),
+    ("freeze", Effect::Freeze as u16),
+    ("read", Effect::Read as u16),
+    ("capture", Effect::Capture as u16),
+    (
+        "mutate-iterator?",
+        Effect::MutateIteratorConditionally as u16,
+    ),
+    ("mutate?", Effect::MutateConditionally as u16),
+    ("mutate", Effect::Mutate as u16),
+    ("store", Effect::Store as u16),
 ];
 
 const NO_RUN: Run = Run { start: 0, count: 0 };
@@ -103,55 +97,51 @@ const NO_RANGE: Range = Range { start: 0, end: 0 };
 // What the source asks for, in the order of its lines.
 pub fn parse_source<'a>(heap: Global, source: &'a str) -> Result<PanelBuilder, SourceError<'a>> {
     let mut builder = PanelBuilder::new(heap);
-    let mut line: usize = 0;
-    for text in source.lines() {
-        line = line.saturating_add(1);
-        if let Some(problem) = run_line(heap, &mut builder, text) {
-            return Err(SourceError { line, problem });
-        }
+    for (text, line) in source.lines().zip(1..) {
+        run_line(heap, &mut builder, text).map_err(|problem| SourceError { line, problem })?;
     }
     Ok(builder)
 }
 
-// Runs a line, and answers what is wrong with it.
-fn run_line<'a>(heap: Global, builder: &mut PanelBuilder, line: &'a str) -> Option<Problem<'a>> {
-    let mut words = Words::of(line);
-    let (times, keyword) = read_times(&mut words);
-    let statement = read_statement(heap, keyword, &mut words);
-    let problem = words.end();
-    if problem.is_some() {
-        return problem;
-    }
-    run_times(builder, &statement, times)
-}
-
-// How often a statement is to be run, and its first word, which is empty where
-// the line is.
-fn read_times<'a>(words: &mut Words<'a>) -> (u32, &'a str) {
-    let word = words.next().unwrap_or("");
-    if word != "repeat" {
-        return (1, word);
-    }
-    let times = words.number32("a number of times");
-    (times, words.expect("a statement"))
-}
-
-fn run_times<'a>(
+// Runs a line.
+fn run_line<'a>(
+    heap: Global,
     builder: &mut PanelBuilder,
-    statement: &Statement<'a>,
-    times: u32,
-) -> Option<Problem<'a>> {
-    for _ in 0..times {
-        if let Err(error) = run_statement(builder, statement) {
-            return Some(Problem::Refused(error));
-        }
+    line: &'a str,
+) -> Result<(), Problem<'a>> {
+    let mut words = Words::of(line);
+    let Some(word) = words.next() else {
+        return Ok(());
+    };
+    let (times, keyword) = read_times(word, &mut words)?;
+    let statement = read_statement(heap, keyword, &mut words)?;
+    words.end()?;
+    run_times(builder, &statement, times)?;
+    Ok(())
+}
+
+// How often the statement that begins with `word` is to be run, and its keyword.
+fn read_times<'a>(word: &'a str, words: &mut Words<'a>) -> Result<(u32, &'a str), Problem<'a>> {
+    if word != "repeat" {
+        return Ok((1, word));
     }
-    None
+    let times = words.number("a number of times")?;
+    Ok((times, words.expect("a statement")?))
+}
+
+fn run_times(
+    builder: &mut PanelBuilder,
+    statement: &Statement<'_>,
+    times: u32,
+) -> Result<(), BuildError> {
+    for _ in 0..times {
+        run_statement(builder, statement)?;
+    }
+    Ok(())
 }
 
 fn run_statement(builder: &mut PanelBuilder, statement: &Statement<'_>) -> Result<(), BuildError> {
     match statement {
-        Statement::Nothing => Ok(()),
         Statement::Panel(code) => {
             builder.set_kind(*code);
             Ok(())
@@ -164,175 +154,166 @@ fn run_statement(builder: &mut PanelBuilder, statement: &Statement<'_>) -> Resul
     }
 }
 
-fn read_statement<'a>(heap: Global, keyword: &'a str, words: &mut Words<'a>) -> Statement<'a> {
+fn read_statement<'a>(
+    heap: Global,
+    keyword: &'a str,
+    words: &mut Words<'a>,
+) -> Result<Statement<'a>, Problem<'a>> {
     match keyword {
-        "" => Statement::Nothing,
-        "panel" => Statement::Panel(words.code("a kind of panel", &PANELS)),
-        "name" => Statement::Name(words.expect("a word")),
-        "name-at" => Statement::Add(read_record(Table::Names, words)),
-        "text" => Statement::Text(words.expect("a word")),
+        "panel" => Ok(Statement::Panel(words.code("a kind of panel", &PANELS)?)),
+        "name" => Ok(Statement::Name(words.expect("a word")?)),
+        "name-at" => Ok(Statement::Add(read_record(Table::Names, words)?)),
+        "text" => Ok(Statement::Text(words.expect("a word")?)),
         "raw" => read_raw(heap, words),
-        _ => read_add(keyword, words),
-    }
-}
-
-// A record behind the word for its table.
-fn read_add<'a>(keyword: &'a str, words: &mut Words<'a>) -> Statement<'a> {
-    match Table::named(keyword) {
-        Some(table) => Statement::Add(read_record(table, words)),
-        None => {
-            words.unfit("a statement", keyword);
-            Statement::Nothing
+        _ => {
+            let table = parse("a statement", keyword, keyword)?;
+            Ok(Statement::Add(read_record(table, words)?))
         }
     }
 }
 
-fn read_raw<'a>(heap: Global, words: &mut Words<'a>) -> Statement<'a> {
-    let word = words.expect("a table or text");
-    let bytes = words.bytes(heap);
+// The bytes are read before the word of the table is looked up, so that a wrong
+// byte is reported first.
+fn read_raw<'a>(heap: Global, words: &mut Words<'a>) -> Result<Statement<'a>, Problem<'a>> {
+    let word = words.expect("a table or text")?;
+    let bytes = words.bytes(heap)?;
     if word == "text" {
-        return Statement::RawText(bytes);
+        return Ok(Statement::RawText(bytes));
     }
-    match Table::named(word) {
-        Some(table) => Statement::Raw(table, bytes),
-        None => {
-            words.unfit("a table or text", word);
-            Statement::Nothing
-        }
-    }
+    Ok(Statement::Raw(parse("a table or text", word, word)?, bytes))
 }
 
-fn read_record(table: Table, words: &mut Words<'_>) -> Record {
+fn read_record<'a>(table: Table, words: &mut Words<'a>) -> Result<Record, Problem<'a>> {
     match table {
-        Table::Names => Record::Name(read_name(words)),
-        Table::Values => Record::Value(read_value(words)),
-        Table::Functions => Record::Function(read_function(words)),
-        Table::Blocks => Record::Block(read_block(words)),
-        Table::Predecessors => Record::Predecessor(read_predecessor(words)),
-        Table::Phis => Record::Phi(read_phi(words)),
-        Table::Instructions => Record::Instruction(read_instruction(words)),
-        Table::Mentions => Record::Mention(read_mention(words)),
+        Table::Names => read_name(words).map(Record::Name),
+        Table::Values => read_value(words).map(Record::Value),
+        Table::Functions => read_function(words).map(Record::Function),
+        Table::Blocks => read_block(words).map(Record::Block),
+        Table::Predecessors => read_predecessor(words).map(Record::Predecessor),
+        Table::Phis => read_phi(words).map(Record::Phi),
+        Table::Instructions => read_instruction(words).map(Record::Instruction),
+        Table::Mentions => read_mention(words).map(Record::Mention),
     }
 }
 
-fn read_name(words: &mut Words<'_>) -> NameRecord {
-    NameRecord {
-        start: words.number16("a place in the text"),
-        length: words.number16("a length"),
-    }
+fn read_name<'a>(words: &mut Words<'a>) -> Result<NameRecord, Problem<'a>> {
+    Ok(NameRecord {
+        start: words.number("a place in the text")?,
+        length: words.number("a length")?,
+    })
 }
 
-fn read_value(words: &mut Words<'_>) -> ValueRecord {
-    let form = words.code("a form", &FORMS);
-    let name = if form == UNNAMED {
+fn read_value<'a>(words: &mut Words<'a>) -> Result<ValueRecord, Problem<'a>> {
+    let form = words.code("a form", &FORMS)?;
+    let name = if form == NameForm::Unnamed as u16 {
         0
     } else {
-        words.number16("a name's number")
+        words.number("a name's number")?
     };
-    ValueRecord {
+    Ok(ValueRecord {
         form,
         name,
-        kind: words.code("a type", &TYPES),
-        range: words.range(),
-    }
+        kind: words.code("a type", &TYPES)?,
+        range: words.range()?,
+    })
 }
 
-fn read_function(words: &mut Words<'_>) -> FunctionRecord {
-    FunctionRecord {
-        params: words.run("params"),
-        blocks: words.run("blocks"),
-    }
+fn read_function<'a>(words: &mut Words<'a>) -> Result<FunctionRecord, Problem<'a>> {
+    Ok(FunctionRecord {
+        params: words.run("params")?,
+        blocks: words.run("blocks")?,
+    })
 }
 
-fn read_block(words: &mut Words<'_>) -> BlockRecord {
-    let id = words.number16("a block id");
-    let predecessors = words.run("preds");
-    let phis = words.run("phis");
-    let instructions = words.run("instructions");
-    let (returns, value) = read_return(words);
-    BlockRecord {
+fn read_block<'a>(words: &mut Words<'a>) -> Result<BlockRecord, Problem<'a>> {
+    let id = words.number("a block id")?;
+    let predecessors = words.run("preds")?;
+    let phis = words.run("phis")?;
+    let instructions = words.run("instructions")?;
+    let returned = read_return(words)?;
+    Ok(BlockRecord {
         id,
         predecessors,
         phis,
         instructions,
-        returns,
-        value,
-    }
+        returns: returned.is_some() as u16,
+        value: returned.unwrap_or(0),
+    })
 }
 
-// A block's return at the end of its line: whether there is one, and its value.
-fn read_return(words: &mut Words<'_>) -> (u16, u16) {
-    match words.next() {
-        Some(word) => {
-            words.check("return", word);
-            (1, words.number16("a value's number"))
-        }
-        None => (0, 0),
-    }
+// The value of a block's return, which may stand at the end of its line.
+fn read_return<'a>(words: &mut Words<'a>) -> Result<Option<u16>, Problem<'a>> {
+    let Some(word) = words.next() else {
+        return Ok(None);
+    };
+    check("return", word)?;
+    words.number("a value's number").map(Some)
 }
 
-fn read_predecessor(words: &mut Words<'_>) -> PredecessorRecord {
-    PredecessorRecord {
-        id: words.number16("a block id"),
-    }
+fn read_predecessor<'a>(words: &mut Words<'a>) -> Result<PredecessorRecord, Problem<'a>> {
+    Ok(PredecessorRecord {
+        id: words.number("a block id")?,
+    })
 }
 
-fn read_phi(words: &mut Words<'_>) -> PhiRecord {
-    PhiRecord {
-        value: words.number16("a value's number"),
-        operands: words.run("operands"),
-    }
+fn read_phi<'a>(words: &mut Words<'a>) -> Result<PhiRecord, Problem<'a>> {
+    Ok(PhiRecord {
+        value: words.number("a value's number")?,
+        operands: words.run("operands")?,
+    })
 }
 
-fn read_instruction(words: &mut Words<'_>) -> InstructionRecord {
-    let kind = words.code("a kind of instruction", &KINDS);
+fn read_instruction<'a>(words: &mut Words<'a>) -> Result<InstructionRecord, Problem<'a>> {
+    let code = words.code("a kind of instruction", &KINDS)?;
+    // A code that is no kind's has what `other` has.
+    let kind = InstructionKind::try_from(code).unwrap_or(InstructionKind::Other);
     let subject = match kind {
-        LOAD_LOCAL | CALL | METHOD_CALL => words.number16("a mention's number"),
+        InstructionKind::LoadLocal | InstructionKind::Call | InstructionKind::MethodCall => {
+            words.number("a mention's number")?
+        }
         _ => 0,
     };
     let arguments = match kind {
-        CALL | METHOD_CALL | ARRAY => words.run("args"),
+        InstructionKind::Call | InstructionKind::MethodCall | InstructionKind::Array => {
+            words.run("args")?
+        }
         _ => NO_RUN,
     };
-    let function = if kind == FUNCTION {
-        words.number16("a function's number")
-    } else {
-        0
+    let function = match kind {
+        InstructionKind::Function => words.number("a function's number")?,
+        _ => 0,
     };
-    words.keyword("order");
-    InstructionRecord {
-        kind,
-        order: words.number32("an evaluation order"),
-        lvalues: words.run("lvalues"),
-        operands: words.run("operands"),
+    words.keyword("order")?;
+    Ok(InstructionRecord {
+        kind: code,
+        order: words.number("an evaluation order")?,
+        lvalues: words.run("lvalues")?,
+        operands: words.run("operands")?,
         subject,
         arguments,
         function,
-    }
+    })
 }
 
-fn read_mention(words: &mut Words<'_>) -> MentionRecord {
-    let form = words.code("a form of mention", &MENTION_FORMS);
-    if form == HOLE {
-        return MentionRecord {
+fn read_mention<'a>(words: &mut Words<'a>) -> Result<MentionRecord, Problem<'a>> {
+    let form = words.code("a form of mention", &MENTION_FORMS)?;
+    if form == MentionForm::Hole as u16 {
+        return Ok(MentionRecord {
             value: 0,
             form,
             effect: 0,
             spanned: 0,
             span: NO_RANGE,
-        };
+        });
     }
-    let value = words.number16("a value's number");
-    let effect = words.code("an effect", &EFFECTS);
-    let (spanned, span) = match words.next() {
-        Some(word) => (1, words.range_of(word)),
-        None => (0, NO_RANGE),
-    };
-    MentionRecord {
+    let value = words.number("a value's number")?;
+    let effect = words.code("an effect", &EFFECTS)?;
+    let span = words.next().map(range_of).transpose()?;
+    Ok(MentionRecord {
         value,
         form,
         effect,
-        spanned,
-        span,
-    }
+        spanned: span.is_some() as u16,
+        span: span.unwrap_or(NO_RANGE),
+    })
 }

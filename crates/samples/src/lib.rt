@@ -4,6 +4,7 @@
 ghost use Rattle.std.specs.Prelude.{◌<◌, ◌≤◌};
 
 use assemble::builder::PanelBuilder;
+use assemble::codes::{Effect, InstructionKind, MentionForm, NameForm, ValueType};
 use assemble::error::BuildError;
 use assemble::records::{
     BlockRecord, FunctionRecord, InstructionRecord, MentionRecord, PhiRecord, PredecessorRecord,
@@ -14,28 +15,43 @@ use std::alloc::Global;
 // As many names as the largest panel has.
 pub const LARGEST: u16 = 2048;
 
-// Names of 31 bytes that differ in their last four.
-fn name_of(k: u16) -> [u8; 31] {
-    let mut word = *b"observatory_gas_panel_value0000";
-    word[27] = b'0' + (k / 1000 % 10) as u8;
-    word[28] = b'0' + (k / 100 % 10) as u8;
-    word[29] = b'0' + (k / 10 % 10) as u8;
-    word[30] = b'0' + (k % 10) as u8;
-    word
-}
+// The types of values, in turn.
+const TYPES: [ValueType; 5] = [
+    ValueType::Other,
+    ValueType::UseState,
+    ValueType::SetState,
+    ValueType::UseRef,
+    ValueType::EffectHook,
+];
 
-// Each value has a name of its own; types in turn.
+// The effects of operands, in turn.
+const EFFECTS: [Effect; 7] = [
+    Effect::Freeze,
+    Effect::Read,
+    Effect::Capture,
+    Effect::MutateIteratorConditionally,
+    Effect::MutateConditionally,
+    Effect::Mutate,
+    Effect::Store,
+];
+
+// Each value has a name of its own. The first five of sixteen have the types in
+// turn.
 fn value_of(k: u16) -> ValueRecord {
-    let kind = if k % 16 < 5 { k % 16 } else { 0 };
-    let range = Range {
-        start: k as u32,
-        end: 2 * k as u32,
+    let form = if k % 2 == 0 {
+        NameForm::Named
+    } else {
+        NameForm::Promoted
     };
+    let kind = TYPES.get(k as usize % 16).copied();
     ValueRecord {
-        form: 1 + k % 2,
+        form: form as u16,
         name: k,
-        kind,
-        range,
+        kind: kind.unwrap_or(ValueType::Other) as u16,
+        range: Range {
+            start: k as u32,
+            end: 2 * k as u32,
+        },
     }
 }
 
@@ -67,28 +83,24 @@ fn block_of(b: u16) -> BlockRecord
             start: 4 * b,
             count: 4,
         },
-        returns: if b % 8 == 7 { 1 } else { 0 },
+        returns: (b % 8 == 7) as u16,
         value: b,
     }
 }
 
 // The kind of instruction `i`: the last of each function but the last function
 // is an expression of the next function, the others go in turn.
-fn kind_of(i: u16, instructions: u16) -> u16 {
-    if i % 32 == 31 {
-        return if i < instructions.saturating_sub(1) {
-            2
-        } else {
-            0
-        };
+fn kind_of(i: u16, instructions: u16) -> InstructionKind {
+    if i % 32 == 31 && i < instructions.saturating_sub(1) {
+        return InstructionKind::Function;
     }
     match i % 8 {
-        1 => 1,
-        2 => 3,
-        3 => 4,
-        4 => 5,
-        5 => 6,
-        _ => 0,
+        1 => InstructionKind::LoadLocal,
+        2 => InstructionKind::Call,
+        3 => InstructionKind::MethodCall,
+        4 => InstructionKind::Array,
+        5 => InstructionKind::LoadGlobal,
+        _ => InstructionKind::Other,
     }
 }
 
@@ -97,7 +109,7 @@ fn instruction_of(i: u16, instructions: u16) -> InstructionRecord
     requires { i < 8192 }
 {
     InstructionRecord {
-        kind: kind_of(i, instructions),
+        kind: kind_of(i, instructions).into(),
         order: i as u32,
         lvalues: Run {
             start: 4 * i,
@@ -116,14 +128,20 @@ fn instruction_of(i: u16, instructions: u16) -> InstructionRecord
     }
 }
 
+// Every fourth mention is an lvalue.
 fn mention_of(m: u16, values: u16) -> MentionRecord
     requires { 0 < values }
 {
+    let effect = if m % 4 == 0 {
+        Effect::Store
+    } else {
+        EFFECTS[m as usize % 7]
+    };
     MentionRecord {
         value: (m / 4 + 5 * (m % 4)) % values,
-        form: 0,
-        effect: if m % 4 == 0 { 7 } else { 1 + m % 7 },
-        spanned: if m % 3 == 0 { 0 } else { 1 },
+        form: MentionForm::Place as u16,
+        effect: effect as u16,
+        spanned: (m % 3 != 0) as u16,
         span: Range {
             start: m as u32,
             end: m as u32 + 8,
@@ -131,9 +149,11 @@ fn mention_of(m: u16, values: u16) -> MentionRecord
     }
 }
 
-fn add_values(panel: &mut PanelBuilder, n: u16) -> Result<(), BuildError> {
+// Names of 31 bytes that differ in their last four.
+fn add_values(heap: Global, panel: &mut PanelBuilder, n: u16) -> Result<(), BuildError> {
     for k in 0..n {
-        panel.add_name(&name_of(k))?;
+        let name = format!(in heap; "observatory_gas_panel_value{k:04}")?;
+        panel.add_name(name.as_bytes())?;
         panel.add(&Record::Value(value_of(k)))?;
     }
     Ok(())
@@ -178,7 +198,7 @@ fn add_instructions(panel: &mut PanelBuilder, n: u16) -> Result<(), BuildError>
 pub fn panel_of(heap: Global, n: u16) -> Result<Vec<u8>, BuildError> {
     let n = n.min(LARGEST) / 8 * 8;
     let mut panel = PanelBuilder::new(heap);
-    add_values(&mut panel, n)?;
+    add_values(heap, &mut panel, n)?;
     add_blocks(&mut panel, n)?;
     add_instructions(&mut panel, n)?;
     panel.finish(heap)

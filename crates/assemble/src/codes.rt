@@ -1,0 +1,105 @@
+// The codes of a packed file that have a meaning. A field is a plain number all
+// the same, since a file may have any number there.
+ghost use Rattle.std.specs.Prelude.{◌≡◌};
+ghost use Rattle.assemble.specs.Codes.{Decodes, kind_code};
+
+use std::error::Error;
+use std::fmt;
+
+// What the panel's function 0 is.
+#[derive(Clone, Copy, Debug, PartialEq, Eq)]
+pub enum PanelKind {
+    Component,
+    Hook,
+    Other,
+}
+
+// What a value is called.
+#[derive(Clone, Copy, Debug, PartialEq, Eq)]
+pub enum NameForm {
+    Unnamed,
+    Named,
+    Promoted,
+}
+
+// What a value's type is.
+#[derive(Clone, Copy, Debug, PartialEq, Eq)]
+pub enum ValueType {
+    Other,
+    UseState,
+    SetState,
+    UseRef,
+    EffectHook,
+}
+
+// What an instruction does.
+#[derive(Clone, Copy, Debug, PartialEq, Eq)]
+pub enum InstructionKind {
+    Other,
+    LoadLocal,
+    Function,
+    Call,
+    MethodCall,
+    Array,
+    LoadGlobal,
+}
+
+// What a mention is.
+#[derive(Clone, Copy, Debug, PartialEq, Eq)]
+pub enum MentionForm {
+    Place,
+    Spread,
+    Hole,
+}
+
+// What a mention does to its value.
+#[derive(Clone, Copy, Debug, PartialEq, Eq)]
+pub enum Effect {
+    Unknown,
+    Freeze,
+    Read,
+    Capture,
+    MutateIteratorConditionally,
+    MutateConditionally,
+    Mutate,
+    Store,
+}
+
+// A number that is no instruction's code.
+#[derive(Clone, Copy, Debug, PartialEq, Eq)]
+pub struct UnknownKind(pub u16);
+
+impl From<InstructionKind> for u16 {
+    ghost from_gives = { λ kind code. code ≡ kind_code kind };
+
+    fn from(kind: InstructionKind) -> u16 {
+        kind as u16
+    }
+}
+
+impl TryFrom<u16> for InstructionKind {
+    type Error = UnknownKind;
+
+    ghost try_from_gives = { Decodes };
+
+    fn try_from(code: u16) -> Result<InstructionKind, UnknownKind> {
+        match code {
+            0 => Ok(InstructionKind::Other),
+            1 => Ok(InstructionKind::LoadLocal),
+            2 => Ok(InstructionKind::Function),
+            3 => Ok(InstructionKind::Call),
+            4 => Ok(InstructionKind::MethodCall),
+            5 => Ok(InstructionKind::Array),
+            6 => Ok(InstructionKind::LoadGlobal),
+            _ => Err(UnknownKind(code)),
+        }
+    }
+}
+
+impl fmt::Display for UnknownKind {
+    fn fmt<W: fmt::Write>(&self, f: &mut fmt::Formatter<W>) -> fmt::Result {
+        write!(f, "no kind of instruction has code {}", self.0)
+    }
+}
+
+impl Error for UnknownKind {}
