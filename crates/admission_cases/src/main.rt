@@ -22,7 +22,7 @@ use component::fault::Fault;
 use packed::Packed;
 use panelsource::source::parse_source;
 use std::alloc::{AllocError, Global};
-use std::io;
+use std::io::Read;
 
 #[derive(Drop)]
 struct Cases {
@@ -139,10 +139,7 @@ impl Cases {
         let title = self.title.as_str();
         match open_and_admit(file) {
             Ok(()) => println!(rt; "{title}: admitted")?,
-            Err(Fault { reason, place }) => {
-                let number = reason.number();
-                println!(rt; "{title}: refused {number} at {place}")?;
-            }
+            Err(fault) => println!(rt; "{title}: {fault}")?,
         }
         Ok(())
     }
@@ -202,7 +199,9 @@ fn read_bytes(heap: Global, digits: &str) -> anyhow::Result<Vec<u8>> {
 // As in `packed_cases`: a crate for these few lines would be no plainer, since it would
 // have to take a command by a closure.
 fn run(rt: &HostRuntime) -> anyhow::Result<()> {
-    let text = io::read_to_string(rt.alloc(), rt.stdin())?;
+    let mut bytes = Vec::new(rt.alloc());
+    rt.stdin().read_to_end(&mut bytes)?;
+    let text = std::str::from_utf8(bytes.as_slice())?;
     let mut cases = Cases::new(rt.alloc());
     let commands = text
         .lines()

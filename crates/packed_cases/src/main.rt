@@ -12,12 +12,11 @@
 
 use anyhow::{anyhow, bail};
 use component::Component;
-use component::fault::Fault;
-use listing::{Text, push_head, push_next};
+use listing::Listing;
 use packed::Packed;
 use panelsource::source::parse_source;
 use std::alloc::{AllocError, Global};
-use std::io;
+use std::io::Read;
 
 #[derive(Drop)]
 struct Cases {
@@ -100,10 +99,7 @@ impl Cases {
         let title = self.title.as_str();
         match Packed::open(self.file.as_slice()) {
             Ok(packed) => print_opened(rt, title, &packed)?,
-            Err(Fault { reason, place }) => {
-                let number = reason.number();
-                println!(rt; "{title}: refused {number} at {place}")?;
-            }
+            Err(fault) => println!(rt; "{title}: {fault}")?,
         }
         Ok(())
     }
@@ -112,10 +108,9 @@ impl Cases {
         let Ok(packed) = Packed::open(self.file.as_slice()) else {
             bail!("nothing to list");
         };
-        let mut text = Text::new(rt.alloc());
-        let mut cursor = push_head(&packed, &mut text);
-        while push_next(&packed, &mut cursor, &mut text) {}
-        print!(rt; "{}", text.written()?)?;
+        let mut listing = Listing::new(&packed, rt.alloc());
+        while listing.push_next() {}
+        print!(rt; "{}", listing.text.written()?)?;
         Ok(())
     }
 }
@@ -137,7 +132,9 @@ fn print_opened(rt: &HostRuntime, title: &str, packed: &Packed) -> anyhow::Resul
 // As in `admission_cases`: a crate for these few lines would be no plainer, since it would
 // have to take a command by a closure.
 fn run(rt: &HostRuntime) -> anyhow::Result<()> {
-    let text = io::read_to_string(rt.alloc(), rt.stdin())?;
+    let mut bytes = Vec::new(rt.alloc());
+    rt.stdin().read_to_end(&mut bytes)?;
+    let text = std::str::from_utf8(bytes.as_slice())?;
     let mut cases = Cases::new(rt.alloc());
     let commands = text
         .lines()
