@@ -20,16 +20,14 @@ impl<'a, C: Component> Inspection<'a, C> {
     fn function_before(&self, n: usize) -> Option<Function>
         ensures { result ≡ before self.now.functions n }
     {
-        let component = self.component;
-        n.checked_sub(1).and_then(|m| component.function(m))
+        n.checked_sub(1).and_then(|m| self.component.function(m))
     }
 
     // The block before block `n`.
     fn block_before(&self, n: usize) -> Option<Block>
         ensures { result ≡ before self.now.blocks n }
     {
-        let component = self.component;
-        n.checked_sub(1).and_then(|m| component.block(m))
+        n.checked_sub(1).and_then(|m| self.component.block(m))
     }
 
     // Where the block lists of all functions end.

@@ -1,5 +1,5 @@
 -- The tests of phis and instructions, by a table of places.
-use Rattle.std.proofs.Common.{◌≡◌, ℕ, Bool, List, length, Some, None, Option, refl, ap, ◌∙◌}
+use Rattle.std.proofs.Common.{◌≡◌, ℕ, Bool, List, Some, None, Option, refl, ap, ◌∙◌}
 use Rattle.std.specs.List.{slice_get}
 use Rattle.component.specs.declared.records.Sizes.{Sizes}
 use Rattle.component.specs.Meaning.{Meaning, sizes_of}
