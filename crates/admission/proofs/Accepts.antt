@@ -1,27 +1,23 @@
 -- A component is admitted exactly when it keeps every rule.
-use Rattle.std.proofs.Common.{◌≡◌, ℕ, zero, suc, ◌<◌, ◌≤◌, Bool, true, false, cond, not, eqb, ltb, leb, length, Some, None, Option, sym, refl, ap, ◌∙◌, inl, inr, ⊎_elim, arith}
+use Rattle.std.proofs.Common.{◌≡◌, ℕ, zero, suc, ◌<◌, ◌≤◌, Bool, true, not, eqb, ltb, leb, length, Some, None, Option, sym, refl, ap, ◌∙◌, inl, inr, ⊎_elim, arith}
 use Rattle.std.proofs.lemmas.Bool.{and_parts, and_from, ltb-true, leb-true, lt-ltb, le-ltb, le-leb, eqb-true, eq-eqb, ne_eqb, both_ways, not-true, not_from_false, cond-true, cond-false, cases_lt, cases_order}
 use Rattle.component.specs.Meaning.{Meaning, sizes_of}
 use Rattle.component.proofs.Firsts.{option_or_none}
 use Rattle.rules.specs.Lists.{refused, starts_at, follows, rest_from}
 use Rattle.rules.specs.Rules.{sizes_fit, blocks_of, phis_of, instructions_of, block_follows, function_follows, is_body, body_of, body_free, taken_before, instruction_follows, alike, name_at, length_fits, repeated, name_stands}
 use Rattle.rules.specs.Admission.{admission, number_fault, order_fault, name_breach, size_breach, function_breach, function_order, block_order, phi_order, instruction_order, Sized, Fitting, Ordered, Named, Admitted}
-use Rattle.rules.proofs.Failing.{each_passes, none_fails}
+use Rattle.rules.proofs.Failing.{passing, each_passes, none_fails}
 use Rattle.names.proofs.Twins.{same_alike, some_below, none_below, stands_apart}
 use Rattle.admission.specs.Laws.{AdmittedExactly}
 use Rattle.admission.proofs.Fits.{refused_none, fitting, body_here, blocks_end_inside, phis_end_inside, instructions_end_inside}
 
 -- sizes
 
-within : (b : Bool) → cond {A = Option ℕ} b None (Some 0) ≡ None → b ≡ true
-within true e = refl
-within false e = let z : ◌≡◌ {A = ℕ} 0 1 = cc in absurd (omega arith)
-
 module _ (m : Meaning) where
   pub sized : size_breach m ≡ None → Sized m
   sized e =
       let s = sizes_of m in
-      let a = and_parts (leb s.names 2048) _ (within (sizes_fit s) e) in
+      let a = and_parts (leb s.names 2048) _ (passing (sizes_fit s) 0 e) in
       let b = and_parts (leb s.values 2048) _ a.1 in
       let c = and_parts (leb s.functions 256) _ b.1 in
       let d = and_parts (leb s.blocks 2048) _ c.1 in
@@ -69,7 +65,7 @@ module _ (m : Meaning) where
   reaches : (k n : ℕ) → rest_from k n ≡ None → n ≤ k
   reaches k n e =
       elim (cases_lt k n) [
-        | inl l ↦ let z = sym (cond-true (ltb k n) (Some k) None (lt-ltb k n l)) ∙ e in let w : ◌≡◌ {A = ℕ} 0 1 = cc in absurd (omega arith)
+        | inl l ↦ let z = sym (cond-true (ltb k n) (Some k) None (lt-ltb k n l)) ∙ e in cc
         | inr l ↦ l
       ]
 
@@ -79,25 +75,25 @@ module _ (m : Meaning) where
   covers k (suc n) h = let l = h n (omega arith) in omega arith
 
   free_zero : (t : ℕ → Bool) (o : Option ℕ) → body_free t o ≡ true → o ≡ Some 0 → ⊥
-  free_zero t None e z = let w : ◌≡◌ {A = ℕ} 0 1 = cc in omega arith
+  free_zero t None e z = cc
   free_zero t (Some f) e z =
       let p = and_parts (not (eqb f 0)) (not (t f)) e in
       let q : f ≡ 0 = cc in
       both_ways (eqb f 0) (not-true (eqb f 0) p.0) (eq-eqb f 0 q)
 
   free_taken : (t : ℕ → Bool) (o : Option ℕ) (f : ℕ) → body_free t o ≡ true → o ≡ Some f → t f ≡ true → ⊥
-  free_taken t None f e z u = let w : ◌≡◌ {A = ℕ} 0 1 = cc in omega arith
+  free_taken t None f e z u = cc
   free_taken t (Some g) f e z u =
       let p = and_parts (not (eqb g 0)) (not (t g)) e in
       let q : g ≡ f = cc in
       both_ways (t g) (not-true (t g) p.1) (ap t q ∙ u)
 
   is_body_of : (o : Option ℕ) (f : ℕ) → o ≡ Some f → is_body f o ≡ true
-  is_body_of None f e = let w : ◌≡◌ {A = ℕ} 0 1 = cc in absurd (omega arith)
+  is_body_of None f e = cc
   is_body_of (Some g) f e = let q : g ≡ f = cc in eq-eqb g f q
 
   body_is : (o : Option ℕ) (f : ℕ) → is_body f o ≡ true → o ≡ Some f
-  body_is None f e = let w : ◌≡◌ {A = ℕ} 0 1 = cc in absurd (omega arith)
+  body_is None f e = cc
   body_is (Some g) f e = ap (λ (k : ℕ). Some k) (eqb-true g f e)
 
   module _ (h : Fitting m) (e : order_fault m ≡ None) where

@@ -20,11 +20,11 @@ use Rattle.rules.proofs.Failing.{each_passes}
 -- nothing is refused without a place
 pub refused_none : (r : Reason) (o : Option ℕ) → refused r o ≡ None → o ≡ None
 refused_none r None e = refl
-refused_none r (Some i) e = let z : ◌≡◌ {A = ℕ} 0 1 = cc in absurd (omega arith)
+refused_none r (Some i) e = cc
 
 -- there is a function 0
 root_first : (n : ℕ) (o : Option ℕ) → cond (eqb n 0) (Some 0) o ≡ None → (0 < n) × (o ≡ None)
-root_first zero o e = let z : ◌≡◌ {A = ℕ} 0 1 = cc in absurd (omega arith)
+root_first zero o e = cc
 root_first (suc n) o e = (omega arith, sym (cond-false (eqb (suc n) 0) (Some 0) o (ne_eqb (suc n) 0 (λ z. omega arith))) ∙ e)
 
 pub fitting : (m : Meaning) → number_fault m ≡ None → Fitting m
@@ -47,16 +47,16 @@ fitting m e =
 
 -- the function of a function expression is in the table
 body_kind : (s : Sizes) (q : ℕ → ℕ → Bool) (k : InstructionValue) (f : ℕ) → kind_fits s q k ≡ true → body_in k ≡ Some f → f < s.functions
-body_kind s q kind.Other f e b = let z : ◌≡◌ {A = ℕ} 0 1 = cc in absurd (omega arith)
-body_kind s q (kind.LoadLocal p) f e b = let z : ◌≡◌ {A = ℕ} 0 1 = cc in absurd (omega arith)
+body_kind s q kind.Other f e b = cc
+body_kind s q (kind.LoadLocal p) f e b = cc
 body_kind s q (kind.FunctionExpression g) f e b = let z : g ≡ f = cc in omega (arith, ltb-true g s.functions e)
-body_kind s q (kind.CallExpression p a) f e b = let z : ◌≡◌ {A = ℕ} 0 1 = cc in absurd (omega arith)
-body_kind s q (kind.MethodCall p a) f e b = let z : ◌≡◌ {A = ℕ} 0 1 = cc in absurd (omega arith)
-body_kind s q (kind.ArrayExpression a) f e b = let z : ◌≡◌ {A = ℕ} 0 1 = cc in absurd (omega arith)
-body_kind s q kind.LoadGlobal f e b = let z : ◌≡◌ {A = ℕ} 0 1 = cc in absurd (omega arith)
+body_kind s q (kind.CallExpression p a) f e b = cc
+body_kind s q (kind.MethodCall p a) f e b = cc
+body_kind s q (kind.ArrayExpression a) f e b = cc
+body_kind s q kind.LoadGlobal f e b = cc
 
 body_record : (s : Sizes) (q : ℕ → ℕ → Bool) (o : Option Instruction) (f : ℕ) → test_of (instruction_fits s q) o ≡ true → body_from o ≡ Some f → f < s.functions
-body_record s q None f e b = let z : ◌≡◌ {A = ℕ} 0 1 = cc in absurd (omega arith)
+body_record s q None f e b = cc
 body_record s q (Some i) f e b =
     let p = and_parts (lvalues_fit q s.mentions i.lvalues) (operands_fit q s.mentions i.operands && kind_fits s q i.value) e in
     let r = and_parts (operands_fit q s.mentions i.operands) (kind_fits s q i.value) p.1 in
@@ -111,5 +111,5 @@ pub body_here : (m : Meaning) (i f : ℕ) → body_of m i ≡ Some f → i < len
 body_here m i f b =
     elim (cases_lt i (length m.instructions)) [
       | inl l ↦ l
-      | inr l ↦ let e = ap body_from (slice_get_past m.instructions i l) in let z : ◌≡◌ {A = ℕ} 0 1 = cc in absurd (omega arith)
+      | inr l ↦ let e = ap body_from (slice_get_past m.instructions i l) in cc
     ]

@@ -14,15 +14,16 @@ use Rattle.admission.proofs.Accepts.{sized, size_none, number_none, ordered, ord
 
 -- what is found at n itself
 at_last : (b : Bool) (n i : ℕ) → cond b None (Some n) ≡ Some i → (i ≡ n) × (b ≡ false)
-at_last true n i e = let z : ◌≡◌ {A = ℕ} 0 1 = cc in absurd (omega arith)
+at_last true n i e = cc
 at_last false n i e = (cc, refl)
 
-either : (a b : Option ℕ) (i : ℕ) (P : Type 0) → (a ≡ Some i → P) → (a ≡ None → b ≡ Some i → P) → option_or a b ≡ Some i → P
-either (Some x) b i P f g e = f e
-either None b i P f g e = g refl e
+-- what comes of two comes from the first that has one
+either : {X : Type 0} (a b : Option X) (x : X) (P : Type 0) → (a ≡ Some x → P) → (a ≡ None → b ≡ Some x → P) → option_or a b ≡ Some x → P
+either (Some y) b x P f g e = f e
+either None b x P f g e = g refl e
 
 pub first_record_failing : FirstRecordFailing
-first_record_failing p zero i e = let z : ◌≡◌ {A = ℕ} 0 1 = cc in absurd (omega arith)
+first_record_failing p zero i e = cc
 first_record_failing p (suc n) i e =
     either (first_failing p n) (failing p n) i ((i < suc n) × (p i ≡ false) × ((j : ℕ) → j < i → p j ≡ true))
     (λ q. let r = first_record_failing p n i q in (omega (arith, r.0), r.1, r.2))
@@ -32,50 +33,45 @@ first_record_failing p (suc n) i e =
     e
 
 reason_refused : (r : Reason) (o : Option ℕ) (f : Fault) → refused r o ≡ Some f → f.reason ≡ r
-reason_refused r None f e = let z : ◌≡◌ {A = ℕ} 0 1 = cc in absurd (omega arith)
+reason_refused r None f e = cc
 reason_refused r (Some i) f e =
     let z : record { reason = r; place = i } ≡ f = cc in sym (ap (λ (x : Fault). x.reason) z)
-
--- a refusal comes from the first that has one
-of_either : (a b : Option Fault) (f : Fault) (P : Type 0) → (a ≡ Some f → P) → (a ≡ None → b ≡ Some f → P) → option_or a b ≡ Some f → P
-of_either (Some x) b f P g h e = g e
-of_either None b f P g h e = h refl e
 
 reason_number : (m : Meaning) (f : Fault) → number_fault m ≡ Some f → f.reason ≡ RecordNumber
 reason_number m f e =
     let R = RecordNumber in
     let P = f.reason ≡ R in
-    of_either (refused R (value_breach m)) _ f P (reason_refused R _ f)
-    (λ _. of_either (refused R (function_breach m)) _ f P (reason_refused R _ f)
-    (λ _. of_either (refused R (block_breach m)) _ f P (reason_refused R _ f)
-    (λ _. of_either (refused R (phi_breach m)) _ f P (reason_refused R _ f)
-    (λ _. of_either (refused R (instruction_breach m)) _ f P (reason_refused R _ f) (λ _. reason_refused R (mention_breach m) f))))) e
+    either (refused R (value_breach m)) _ f P (reason_refused R _ f)
+    (λ _. either (refused R (function_breach m)) _ f P (reason_refused R _ f)
+    (λ _. either (refused R (block_breach m)) _ f P (reason_refused R _ f)
+    (λ _. either (refused R (phi_breach m)) _ f P (reason_refused R _ f)
+    (λ _. either (refused R (instruction_breach m)) _ f P (reason_refused R _ f) (λ _. reason_refused R (mention_breach m) f))))) e
 
 reason_order : (m : Meaning) (f : Fault) → order_fault m ≡ Some f → f.reason ≡ ListOrder
 reason_order m f e =
     let R = ListOrder in
     let P = f.reason ≡ R in
-    of_either (refused R (function_order m)) _ f P (reason_refused R _ f)
-    (λ _. of_either (refused R (block_order m)) _ f P (reason_refused R _ f)
-    (λ _. of_either (refused R (phi_order m)) _ f P (reason_refused R _ f) (λ _. reason_refused R (instruction_order m) f))) e
+    either (refused R (function_order m)) _ f P (reason_refused R _ f)
+    (λ _. either (refused R (block_order m)) _ f P (reason_refused R _ f)
+    (λ _. either (refused R (phi_order m)) _ f P (reason_refused R _ f) (λ _. reason_refused R (instruction_order m) f))) e
 
 -- nothing is both refused and not
 not_both : (o : Option Fault) (f : Fault) → o ≡ Some f → o ≡ None → ⊥
-not_both o f e n = let z : ◌≡◌ {A = ℕ} 0 1 = cc in omega arith
+not_both o f e n = cc
 
 pub first_rule_broken : FirstRuleBroken
 first_rule_broken m f e =
     let breaks : (r : Reason) → f.reason ≡ r → Breaks r m → Breaks f.reason m = λ r q b. subst (λ (x : Reason). Breaks x m) (sym q) b in
     let P = Breaks f.reason m in
-    of_either (refused TableSize (size_breach m)) _ f P
+    either (refused TableSize (size_breach m)) _ f P
     (λ q. breaks TableSize (reason_refused TableSize (size_breach m) f q) (λ h. not_both _ f q (ap (refused TableSize) (size_none m h))))
     (λ a.
     let s = sized m (refused_none TableSize (size_breach m) a) in
-    of_either (number_fault m) _ f P
+    either (number_fault m) _ f P
     (λ q. breaks RecordNumber (reason_number m f q) (s, λ h. not_both (number_fault m) f q (number_none m h)))
     (λ b.
     let t = fitting m b in
-    of_either (order_fault m) _ f P
+    either (order_fault m) _ f P
     (λ q. breaks ListOrder (reason_order m f q) (s, t, λ h. not_both (order_fault m) f q (order_none m h)))
     (λ c q.
     breaks NameText (reason_refused NameText (name_breach m) f q)

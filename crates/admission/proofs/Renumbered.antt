@@ -258,14 +258,14 @@ judgement x v r t = option_or x (option_or (option_or (refused RecordNumber v) r
 reasons : (x : Option Fault) (v w : Option ℕ) (r t : Option Fault) → (v ≡ None → w ≡ None) → (w ≡ None → v ≡ None) → reason_of (judgement x w r t) ≡ reason_of (judgement x v r t)
 reasons (Some f) v w r t h k = refl
 reasons None None w r t h k = ap (λ o. reason_of (judgement None o r t)) (h refl)
-reasons None (Some i) None r t h k = let e = k refl in let z : ◌≡◌ {A = ℕ} 0 1 = cc in absurd (omega arith)
+reasons None (Some i) None r t h k = let e = k refl in cc
 reasons None (Some i) (Some j) r t h k = refl
 
 places : (x : Option Fault) (v w : Option ℕ) (r t : Option Fault) → (v ≡ None → w ≡ None) → (w ≡ None → v ≡ None) → (f g : Fault) → judgement x v r t ≡ Some f → judgement x w r t ≡ Some g → (g.place ≡ f.place) ⊎ ((v ≡ Some f.place) × (w ≡ Some g.place))
 places (Some d) v w r t h k f g e i = inl (let z : g ≡ f = cc in ap (λ (y : Fault). y.place) z)
 places None None w r t h k f g e i =
     inl (let s = ap (λ o. judgement None o r t) (h refl) in let z : g ≡ f = cc in ap (λ (y : Fault). y.place) z)
-places None (Some p) None r t h k f g e i = let y = k refl in let z : ◌≡◌ {A = ℕ} 0 1 = cc in absurd (omega arith)
+places None (Some p) None r t h k f g e i = let y = k refl in cc
 places None (Some p) (Some q) r t h k f g e i =
     let a : record { reason = RecordNumber; place = p } ≡ f = cc in
     let b : record { reason = RecordNumber; place = q } ≡ g = cc in

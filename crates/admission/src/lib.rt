@@ -16,6 +16,7 @@ ghost use Rattle.admission.specs.Laws.{AdmittedExactly, FirstRuleBroken, FirstRe
 use component::Component;
 use component::fault::{Fault, Reason};
 use component::records::Sizes;
+use inspection::Inspection;
 use names::first_failing_name;
 use nesting::{nesting_stands, visiting_stands};
 use numbers::admit_numbers;
@@ -30,14 +31,19 @@ pub mod order;
 fn admit_sizes(sizes: Sizes) -> Result<(), Fault>
     ensures { result_err result ≡ refused TableSize (if sizes_fit sizes then None else Some 0) }
 {
-    if sizes_fit(sizes) {
-        Ok(())
-    } else {
-        Err(Fault {
-            reason: Reason::TableSize,
-            place: 0,
-        })
-    }
+    refuse(Reason::TableSize, (!sizes_fit(sizes)).then_some(0))
+}
+
+// Rule by rule, in their order.
+fn admit_inspected<C: Component>(inspection: &Inspection<'_, C>) -> Result<(), Fault>
+    ensures { result_err result ≡ admission inspection.now }
+{
+    let component = inspection.component();
+    let sizes = inspection.sizes();
+    admit_sizes(sizes)?;
+    admit_numbers(inspection)?;
+    admit_order(inspection)?;
+    refuse(Reason::NameText, first_failing_name(component, sizes.names))
 }
 
 // What holds of every component; nothing comes of it but these laws.
@@ -66,9 +72,5 @@ pub fn admit<C: Component>(component: &C) -> Result<(), Fault>
     ensures visiting { VisitingStands }
 {
     admission_laws();
-    let sizes = component.sizes();
-    admit_sizes(sizes)?;
-    admit_numbers(component, sizes)?;
-    admit_order(component, sizes)?;
-    refuse(Reason::NameText, first_failing_name(component, sizes.names))
+    admit_inspected(&Inspection::new(component))
 }

@@ -1,2 +1,1 @@
 pub mod Bodies
-pub mod Counts

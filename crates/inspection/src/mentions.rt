@@ -1,15 +1,17 @@
 // The mentions of a component, read once: those of values that there are, and how
-// many places stand before each.
+// many places stand before each. Then the phis and instructions, whose lists are of
+// places.
 ghost use Rattle.std.specs.Prelude.{◌≡◌, ◌≤◌, length};
 ghost use Rattle.component.specs.Meaning.{sizes_of};
-ghost use Rattle.rules.specs.Lists.{test_of};
-ghost use Rattle.rules.specs.Rules.{PlacesCounted, mention_fits};
-ghost use Rattle.rules.specs.Admission.{mention_breach};
+ghost use Rattle.rules.specs.Lists.{test_of, test_in};
+ghost use Rattle.rules.specs.Rules.{PlacesCounted, mention_fits, phi_fits, instruction_fits, places_from};
+ghost use Rattle.rules.specs.Admission.{mention_breach, phi_breach, instruction_breach};
 
+use crate::Inspection;
 use component::Component;
 use component::records::{Mention, Sizes};
-use rules::firsts::note_failing;
-use rules::records::{mention_fits, places_after};
+use rules::firsts::{first_failing, note_failing};
+use rules::records::{Places, mention_fits, places_after};
 
 // As many mentions as there can be, and one.
 pub const BEFORE_MENTIONS: usize = 32769;
@@ -17,29 +19,83 @@ pub const BEFORE_MENTIONS: usize = 32769;
 fn fits(sizes: Sizes, mention: Option<Mention>) -> bool
     ensures { result ≡ test_of (mention_fits sizes) mention }
 {
-    match mention {
-        Some(mention) => mention_fits(sizes, mention),
-        None => true,
+    mention.is_none_or(|mention| mention_fits(sizes, mention))
+}
+
+impl<'a, C: Component> Inspection<'a, C> {
+    // Writes how many places stand right before each mention, and answers the first
+    // mention with a number outside the value table.
+    pub fn read_mentions(&self, before: &mut [u16; BEFORE_MENTIONS]) -> Option<usize>
+        requires { length self.now.mentions ≤ 32768 }
+        ensures counted { PlacesCounted self.now.mentions before.new }
+        ensures breach { result ≡ mention_breach self.now }
+    {
+        let mut found = None;
+        let mut places = 0u16;
+        before[0] = 0;
+        // A loop: each step carries on what was found, counted and written.
+        for n in 0..self.sizes.mentions {
+            let mention = self.component.mention(n);
+            found = note_failing(found, fits(self.sizes, mention), n);
+            places = places_after(places, mention);
+            before[n + 1] = places;
+        }
+        found
     }
 }
 
-// Writes how many places stand right before each mention, and answers the first
-// mention with a number outside the value table.
-pub fn read_mentions<C: Component>(component: &C, sizes: Sizes, before: &mut [u16]) -> Option<usize>
-    requires sizes { sizes ≡ sizes_of (C.Component.meaning component.now) }
-    requires few { length (C.Component.meaning component.now).mentions ≤ 32768 }
-    requires room { length before.old ≡ 32769 }
-    ensures counted { PlacesCounted (C.Component.meaning component.now).mentions before.new }
-    ensures breach { result ≡ mention_breach (C.Component.meaning component.now) }
-{
-    let mut found = None;
-    let mut places = 0u16;
-    before[0] = 0;
-    for n in 0..sizes.mentions {
-        let mention = component.mention(n);
-        found = note_failing(found, fits(sizes, mention), n);
-        places = places_after(places, mention);
-        before[n + 1] = places;
+// An inspection, with how many places stand right before each mention.
+#[derive(Drop)]
+pub struct Counted<'a, 'b, C: Component> {
+    pub inspection: &'a Inspection<'b, C>,
+    pub before: &'a [u16],
+    ghost counted: { PlacesCounted inspection.now.mentions before.now },
+}
+
+impl<'a, 'b, C: Component> Counted<'a, 'b, C> {
+    fn places(&self) -> Places<'a>
+        ensures sizes { result.sizes ≡ sizes_of self.now.inspection.now }
+        ensures before { result.before.now ≡ self.now.before.now }
+    {
+        Places {
+            sizes: self.inspection.sizes(),
+            before: self.before,
+        }
     }
-    found
+
+    // No closure here: over `places`, which holds a reference, the proof did not close.
+    fn phi_keeps(&self, n: usize) -> bool
+        ensures { result ≡ test_in (phi_fits (sizes_of self.now.inspection.now) (places_from self.now.inspection.now.mentions)) self.now.inspection.now.phis n }
+    {
+        let inspection = self.inspection;
+        match inspection.component.phi(n) {
+            Some(phi) => self.places().phi_fits(phi),
+            None => true,
+        }
+    }
+
+    fn instruction_keeps(&self, n: usize) -> bool
+        ensures { result ≡ test_in (instruction_fits (sizes_of self.now.inspection.now) (places_from self.now.inspection.now.mentions)) self.now.inspection.now.instructions n }
+    {
+        let inspection = self.inspection;
+        match inspection.component.instruction(n) {
+            Some(instruction) => self.places().instruction_fits(instruction),
+            None => true,
+        }
+    }
+
+    pub fn phi_breach(&self) -> Option<usize>
+        ensures { result ≡ phi_breach self.now.inspection.now }
+    {
+        first_failing(self.inspection.sizes().phis, |n| self.phi_keeps(n))
+    }
+
+    pub fn instruction_breach(&self) -> Option<usize>
+        ensures { result ≡ instruction_breach self.now.inspection.now }
+    {
+        first_failing(
+            self.inspection.sizes().instructions,
+            |n| self.instruction_keeps(n),
+        )
+    }
 }

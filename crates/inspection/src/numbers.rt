@@ -1,128 +1,63 @@
 // The tables of a component, each record asked once: numbers inside their
-// tables, forms, lengths of lists. `before` is how many places stand right before
-// each mention.
-ghost use Rattle.std.specs.Prelude.{◌≡◌, length};
+// tables, forms, lengths of lists.
+ghost use Rattle.std.specs.Prelude.{◌≡◌};
+ghost use Rattle.component.specs.Meaning.{sizes_of};
 ghost use Rattle.rules.specs.Lists.{test_in};
-ghost use Rattle.rules.specs.Rules.{value_fits, function_fits, block_fits, phi_fits, instruction_fits, counted_places};
+ghost use Rattle.rules.specs.Rules.{value_fits, function_fits, block_fits};
+ghost use Rattle.rules.specs.Admission.{value_breach, function_breach, block_breach};
 
+use crate::Inspection;
 use component::Component;
-use component::records::Sizes;
-use rules::firsts::Ruled;
-use rules::records::{block_fits, function_fits, instruction_fits, phi_fits, value_fits};
+use rules::firsts::first_failing;
+use rules::records::{block_fits, function_fits, value_fits};
 
-#[derive(Drop)]
-pub struct Values<'a, C> {
-    pub component: &'a C,
-    pub sizes: Sizes,
-}
-
-impl<'a, C: Component> Ruled for Values<'a, C> {
-    ghost count = { λ t. t.sizes.values };
-
-    ghost keeping = { λ t. test_in (value_fits t.sizes) (C.Component.meaning t.component.now).values };
-
-    fn size(&self) -> usize {
-        self.sizes.values
+impl<'a, C: Component> Inspection<'a, C> {
+    fn value_keeps(&self, n: usize) -> bool
+        ensures { result ≡ test_in (value_fits (sizes_of self.now)) self.now.values n }
+    {
+        let sizes = self.sizes;
+        self.component
+            .value(n)
+            .is_none_or(|value| value_fits(sizes, value))
     }
 
-    fn keeps(&self, n: usize) -> bool {
-        match self.component.value(n) {
-            Some(value) => value_fits(self.sizes, value),
-            None => true,
+    fn function_keeps(&self, n: usize) -> bool
+        ensures { result ≡ test_in (function_fits (sizes_of self.now)) self.now.functions n }
+    {
+        let sizes = self.sizes;
+        self.component
+            .function(n)
+            .is_none_or(|function| function_fits(sizes, function))
+    }
+
+    fn block_keeps(&self, n: usize) -> bool
+        ensures { result ≡ test_in (block_fits (sizes_of self.now)) self.now.blocks n }
+    {
+        let sizes = self.sizes;
+        self.component
+            .block(n)
+            .is_none_or(|block| block_fits(sizes, block))
+    }
+
+    pub fn value_breach(&self) -> Option<usize>
+        ensures { result ≡ value_breach self.now }
+    {
+        first_failing(self.sizes.values, |n| self.value_keeps(n))
+    }
+
+    // Without a function 0 the table fails at 0.
+    pub fn function_breach(&self) -> Option<usize>
+        ensures { result ≡ function_breach self.now }
+    {
+        if self.sizes.functions == 0 {
+            return Some(0);
         }
-    }
-}
-
-#[derive(Drop)]
-pub struct Functions<'a, C> {
-    pub component: &'a C,
-    pub sizes: Sizes,
-}
-
-impl<'a, C: Component> Ruled for Functions<'a, C> {
-    ghost count = { λ t. t.sizes.functions };
-
-    ghost keeping = { λ t. test_in (function_fits t.sizes) (C.Component.meaning t.component.now).functions };
-
-    fn size(&self) -> usize {
-        self.sizes.functions
+        first_failing(self.sizes.functions, |n| self.function_keeps(n))
     }
 
-    fn keeps(&self, n: usize) -> bool {
-        match self.component.function(n) {
-            Some(function) => function_fits(self.sizes, function),
-            None => true,
-        }
-    }
-}
-
-#[derive(Drop)]
-pub struct Blocks<'a, C> {
-    pub component: &'a C,
-    pub sizes: Sizes,
-}
-
-impl<'a, C: Component> Ruled for Blocks<'a, C> {
-    ghost count = { λ t. t.sizes.blocks };
-
-    ghost keeping = { λ t. test_in (block_fits t.sizes) (C.Component.meaning t.component.now).blocks };
-
-    fn size(&self) -> usize {
-        self.sizes.blocks
-    }
-
-    fn keeps(&self, n: usize) -> bool {
-        match self.component.block(n) {
-            Some(block) => block_fits(self.sizes, block),
-            None => true,
-        }
-    }
-}
-
-#[derive(Drop)]
-pub struct Phis<'a, C> {
-    pub component: &'a C,
-    pub sizes: Sizes,
-    pub before: &'a [u16],
-}
-
-impl<'a, C: Component> Ruled for Phis<'a, C> {
-    ghost count = { λ t. t.sizes.phis };
-
-    ghost keeping = { λ t. test_in (phi_fits t.sizes (counted_places t.before.now)) (C.Component.meaning t.component.now).phis };
-
-    fn size(&self) -> usize {
-        self.sizes.phis
-    }
-
-    fn keeps(&self, n: usize) -> bool {
-        match self.component.phi(n) {
-            Some(phi) => phi_fits(self.sizes, self.before, phi),
-            None => true,
-        }
-    }
-}
-
-#[derive(Drop)]
-pub struct Instructions<'a, C> {
-    pub component: &'a C,
-    pub sizes: Sizes,
-    pub before: &'a [u16],
-}
-
-impl<'a, C: Component> Ruled for Instructions<'a, C> {
-    ghost count = { λ t. t.sizes.instructions };
-
-    ghost keeping = { λ t. test_in (instruction_fits t.sizes (counted_places t.before.now)) (C.Component.meaning t.component.now).instructions };
-
-    fn size(&self) -> usize {
-        self.sizes.instructions
-    }
-
-    fn keeps(&self, n: usize) -> bool {
-        match self.component.instruction(n) {
-            Some(instruction) => instruction_fits(self.sizes, self.before, instruction),
-            None => true,
-        }
+    pub fn block_breach(&self) -> Option<usize>
+        ensures { result ≡ block_breach self.now }
+    {
+        first_failing(self.sizes.blocks, |n| self.block_keeps(n))
     }
 }

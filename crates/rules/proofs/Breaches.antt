@@ -1,11 +1,10 @@
--- The first phi and the first instruction that fail, by a table of places.
-use Rattle.std.proofs.Common.{◌≡◌, ℕ, Bool, List, length, Some, None, Option, refl, ap, ◌∙◌}
+-- The tests of phis and instructions, by a table of places.
+use Rattle.std.proofs.Common.{◌≡◌, ℕ, Bool, List, Some, None, Option, refl, ap, ◌∙◌}
 use Rattle.std.specs.List.{slice_get}
 use Rattle.component.specs.declared.records.Sizes.{Sizes}
 use Rattle.component.specs.Meaning.{Meaning, sizes_of}
 use Rattle.rules.specs.Lists.{test_of, test_in, first_failing}
-use Rattle.rules.specs.Rules.{PlacesCounted, counted_places, phi_fits, instruction_fits}
-use Rattle.rules.specs.Admission.{phi_breach, instruction_breach}
+use Rattle.rules.specs.Rules.{PlacesCounted, counted_places, places_from, phi_fits, instruction_fits}
 use Rattle.rules.proofs.Failing.{same_first}
 use Rattle.rules.proofs.Places.{phi_same, instruction_same}
 
@@ -18,12 +17,12 @@ pub first_same : {R : Type 0} (p q : R → Bool) (xs : List R) (n : ℕ) → ((x
 first_same p q xs n h = same_first (test_in p xs) (test_in q xs) n (λ i l. test_same p q h (slice_get xs i))
 
 module _ (m : Meaning) (s : Sizes) (e : s ≡ sizes_of m) (t : List ℕ) (h : PlacesCounted m.mentions t) where
-  pub phi_by_table : first_failing (test_in (phi_fits s (counted_places t)) m.phis) s.phis ≡ phi_breach m
-  phi_by_table =
-      ap (λ (z : Sizes). first_failing (test_in (phi_fits z (counted_places t)) m.phis) z.phis) e
-      ∙ first_same _ _ m.phis (length m.phis) (λ x. phi_same m.mentions t h (sizes_of m) x refl)
+  pub phi_by_table : (n : ℕ) → test_in (phi_fits s (counted_places t)) m.phis n ≡ test_in (phi_fits (sizes_of m) (places_from m.mentions)) m.phis n
+  phi_by_table n =
+      ap (λ (z : Sizes). test_in (phi_fits z (counted_places t)) m.phis n) e
+      ∙ test_same _ _ (λ x. phi_same m.mentions t h (sizes_of m) x refl) (slice_get m.phis n)
 
-  pub instruction_by_table : first_failing (test_in (instruction_fits s (counted_places t)) m.instructions) s.instructions ≡ instruction_breach m
-  instruction_by_table =
-      ap (λ (z : Sizes). first_failing (test_in (instruction_fits z (counted_places t)) m.instructions) z.instructions) e
-      ∙ first_same _ _ m.instructions (length m.instructions) (λ x. instruction_same m.mentions t h (sizes_of m) x refl)
+  pub instruction_by_table : (n : ℕ) → test_in (instruction_fits s (counted_places t)) m.instructions n ≡ test_in (instruction_fits (sizes_of m) (places_from m.mentions)) m.instructions n
+  instruction_by_table n =
+      ap (λ (z : Sizes). test_in (instruction_fits z (counted_places t)) m.instructions n) e
+      ∙ test_same _ _ (λ x. instruction_same m.mentions t h (sizes_of m) x refl) (slice_get m.instructions n)

@@ -1,5 +1,5 @@
 -- Lists of a component, and the first record that breaks a rule.
-use Rattle.std.specs.Prelude.{ℕ, zero, suc, ◌+◌, Bool, true, false, cond, ◌&&◌, ◌||◌, List, Some, None, Option, ◌==◌, nat_le, nat_lt}
+use Rattle.std.specs.Prelude.{◌≡◌, ℕ, zero, suc, ◌+◌, ◌<◌, Bool, true, false, cond, ◌&&◌, ◌||◌, List, Some, None, Option, ◌==◌, nat_le, nat_lt}
 use Rattle.std.specs.List.{slice_get}
 use Rattle.component.specs.declared.records.Run.{Run}
 use Rattle.component.specs.declared.fault.Reason.{Reason}
@@ -67,6 +67,10 @@ failing p n = cond (p n) None (Some n)
 -- the first number below n at which p fails
 abbrev pub first_failing : (ℕ → Bool) → ℕ → Option ℕ
 first_failing p n = first_in (failing p) n
+
+-- what calls may return at the numbers below n is what p says
+abbrev pub TestsBelow : (ℕ → Bool → Type 0) → (ℕ → Bool) → ℕ → Type 0
+TestsBelow post p n = (k : ℕ) (b : Bool) → k < n → post k b → b ≡ p k
 
 -- the first of n records from k on, if there is one
 abbrev pub rest_from : ℕ → ℕ → Option ℕ

@@ -2,30 +2,18 @@
 ghost use Rattle.std.specs.Prelude.{◌≡◌, ℕ, Bool, if◌then◌else◌, Some, None};
 ghost use Rattle.std.specs.Option.{option_or};
 ghost use Rattle.std.specs.Result.{result_err};
-ghost use Rattle.rules.specs.Lists.{first_failing, rest_from, refused};
+ghost use Rattle.rules.specs.Lists.{TestsBelow, first_failing, rest_from, refused};
 
 use component::fault::{Fault, Reason};
 
-// A table whose records have a rule to keep.
-pub trait Ruled {
-    ghost count: { Self → ℕ };
-
-    ghost keeping: { Self → ℕ → Bool };
-
-    fn size(&self) -> usize
-        ensures { result ≡ count self.now };
-
-    // Record `n` keeps the rule.
-    fn keeps(&self, n: usize) -> bool
-        ensures { result ≡ keeping self.now n };
-}
-
-// The first record that breaks the rule.
-pub fn first_failing<T: Ruled>(table: &T) -> Option<usize>
-    ensures { result ≡ first_failing (T.Ruled.keeping table.now) (T.Ruled.count table.now) }
+// The first of `size` records that breaks the rule. A loop, since the search does not
+// follow `find` where the closure is tied to `p` only below `size`.
+pub fn first_failing<F: Fn(usize) -> bool>(size: usize, keeps: F) -> Option<usize>
+    requires { F.IsAlwaysCallable keeps }
+    ensures { (p : ℕ → Bool) → TestsBelow (F.post keeps) p size → result ≡ first_failing p size }
 {
-    for n in 0..table.size() {
-        if !table.keeps(n) {
+    for n in 0..size {
+        if !keeps(n) {
             return Some(n);
         }
     }
@@ -36,25 +24,19 @@ pub fn first_failing<T: Ruled>(table: &T) -> Option<usize>
 pub fn note_failing(found: Option<usize>, keeps: bool, n: usize) -> Option<usize>
     ensures { result ≡ option_or found (if keeps then None else Some n) }
 {
-    match found {
-        Some(first) => Some(first),
-        None => { if keeps { None } else { Some(n) } }
-    }
+    found.or((!keeps).then_some(n))
 }
 
 // The first of `size` records from `end` on.
 pub fn rest_from(end: usize, size: usize) -> Option<usize>
     ensures { result ≡ rest_from end size }
 {
-    if end < size { Some(end) } else { None }
+    (end < size).then_some(end)
 }
 
 // A refusal at a place, if there is one.
 pub fn refuse(reason: Reason, place: Option<usize>) -> Result<(), Fault>
     ensures { result_err result ≡ refused reason place }
 {
-    match place {
-        Some(place) => Err(Fault { reason, place }),
-        None => Ok(()),
-    }
+    place.map_or(Ok(()), |place| Err(Fault { reason, place }))
 }

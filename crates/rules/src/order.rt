@@ -1,47 +1,32 @@
 // Lists that follow each other, and functions that are bodies.
-ghost use Rattle.std.specs.Prelude.{◌≡◌, ℕ, true, false, ◌&&◌, get_or, nat_lt, slice_index_or, slice_set};
-ghost use Rattle.rules.specs.Lists.{end_of, run_of, starts_behind};
+ghost use Rattle.std.specs.Prelude.{◌≡◌, ℕ, true, false, ◌&&◌, nat_lt, slice_index_or, slice_set};
+ghost use Rattle.rules.specs.Lists.{run_of, starts_behind};
 ghost use Rattle.rules.specs.Rules.{function_behind, block_behind, body_from, body_free, noted};
 ghost use Rattle.component.specs.declared.records.Function.{Function as AFunction};
 ghost use Rattle.component.specs.declared.records.Block.{Block as ABlock};
 
+use crate::records::end_of;
 use component::records::{Block, Function, Instruction, InstructionValue, Run};
 
 const NO_LIST: Run = Run { start: 0, count: 0 };
-
-// The number behind the last record of a list.
-pub fn end_of(list: Run) -> usize
-    ensures { result ≡ end_of list }
-{
-    list.start as usize + list.count as usize
-}
 
 // The blocks of a function, and none of none.
 pub fn blocks_in(function: Option<Function>) -> Run
     ensures { result ≡ run_of (λ (f : AFunction). f.blocks) function }
 {
-    match function {
-        Some(function) => function.blocks,
-        None => NO_LIST,
-    }
+    function.map_or(NO_LIST, |function| function.blocks)
 }
 
 pub fn phis_in(block: Option<Block>) -> Run
     ensures { result ≡ run_of (λ (b : ABlock). b.phis) block }
 {
-    match block {
-        Some(block) => block.phis,
-        None => NO_LIST,
-    }
+    block.map_or(NO_LIST, |block| block.phis)
 }
 
 pub fn instructions_in(block: Option<Block>) -> Run
     ensures { result ≡ run_of (λ (b : ABlock). b.instructions) block }
 {
-    match block {
-        Some(block) => block.instructions,
-        None => NO_LIST,
-    }
+    block.map_or(NO_LIST, |block| block.instructions)
 }
 
 // A list starts where another ended.
@@ -70,17 +55,9 @@ pub fn block_behind(previous: Option<Block>, block: Option<Block>) -> bool
 pub fn body_in(instruction: Option<Instruction>) -> Option<u16>
     ensures { result ≡ body_from instruction }
 {
-    match instruction {
-        Some(instruction) => match instruction.value {
-            InstructionValue::FunctionExpression(f) => Some(f),
-            InstructionValue::Other => None,
-            InstructionValue::LoadLocal(_) => None,
-            InstructionValue::CallExpression(_, _) => None,
-            InstructionValue::MethodCall(_, _) => None,
-            InstructionValue::ArrayExpression(_) => None,
-            InstructionValue::LoadGlobal => None,
-        },
-        None => None,
+    match instruction?.value {
+        InstructionValue::FunctionExpression(f) => Some(f),
+        _ => None,
     }
 }
 
@@ -88,30 +65,24 @@ pub fn body_in(instruction: Option<Instruction>) -> Option<u16>
 fn is_taken(taken: &[bool], f: u16) -> bool
     ensures { result ≡ slice_index_or taken.now f false }
 {
-    if (f as usize) < taken.len() {
-        taken[f as usize]
-    } else {
-        false
-    }
+    taken.get(f as usize).copied().unwrap_or(false)
 }
 
 // A body is not function 0 and not taken.
 fn body_free(taken: &[bool], body: Option<u16>) -> bool
-    ensures { result ≡ body_free (λ f. get_or taken.now f false) body }
+    ensures { result ≡ body_free (λ f. slice_index_or taken.now f false) body }
 {
-    match body {
-        Some(f) => f != 0 && !is_taken(taken, f),
-        None => true,
-    }
+    body.is_none_or(|f| f != 0 && !is_taken(taken, f))
 }
 
 // An instruction before `end`, where the blocks' lists end, with a free body.
 pub fn instruction_follows(n: usize, end: usize, taken: &[bool], body: Option<u16>) -> bool
-    ensures { result ≡ (nat_lt n end && body_free (λ f. get_or taken.now f false) body) }
+    ensures { result ≡ (nat_lt n end && body_free (λ f. slice_index_or taken.now f false) body) }
 {
     n < end && body_free(taken, body)
 }
 
+// An index: with `get_mut` the proof that the write comes back did not close.
 fn take_function(taken: &mut [bool], f: u16)
     ensures { taken.new ≡ slice_set taken.old f true }
 {
@@ -124,8 +95,7 @@ fn take_function(taken: &mut [bool], f: u16)
 pub fn note_body(taken: &mut [bool], body: Option<u16>)
     ensures { taken.new ≡ noted taken.old body }
 {
-    match body {
-        Some(f) => take_function(taken, f),
-        None => {}
+    if let Some(f) = body {
+        take_function(taken, f);
     }
 }

@@ -1,6 +1,6 @@
 // What each record keeps: numbers inside their tables, forms, lengths of lists.
 ghost use Rattle.std.specs.Prelude.{◌≡◌, ◌<◌, slice_index};
-ghost use Rattle.rules.specs.Lists.{inside};
+ghost use Rattle.rules.specs.Lists.{end_of, inside};
 ghost use Rattle.rules.specs.Rules.{sizes_fit, name_fits, value_fits, function_fits, returned_fits, block_fits, counted_places, operands_fit, lvalues_fit, subject_fits, phi_fits, kind_fits, instruction_fits, mention_fits, places_after};
 
 use component::records::{
@@ -40,11 +40,18 @@ pub fn sizes_fit(sizes: Sizes) -> bool
         && sizes.mentions <= MAX_MENTIONS
 }
 
+// The number behind the last record of a list.
+pub fn end_of(list: Run) -> usize
+    ensures { result ≡ end_of list }
+{
+    list.start as usize + list.count as usize
+}
+
 // A list ends inside a table of `size` records.
 pub fn list_inside(size: usize, list: Run) -> bool
     ensures { result ≡ inside size list }
 {
-    list.start as usize + list.count as usize <= size
+    end_of(list) <= size
 }
 
 pub fn value_fits(sizes: Sizes, value: Value) -> bool
@@ -66,10 +73,7 @@ pub fn function_fits(sizes: Sizes, function: Function) -> bool
 fn returned_fits(values: usize, returned: Option<u16>) -> bool
     ensures { result ≡ returned_fits values returned }
 {
-    match returned {
-        Some(v) => (v as usize) < values,
-        None => true,
-    }
+    returned.is_none_or(|v| (v as usize) < values)
 }
 
 pub fn block_fits(sizes: Sizes, block: Block) -> bool
@@ -88,9 +92,7 @@ pub fn places_after(places: u16, mention: Option<Mention>) -> u16
 {
     match mention {
         Some(Mention::Place(_)) => places + 1,
-        Some(Mention::Spread(_)) => 0,
-        Some(Mention::Hole) => 0,
-        None => 0,
+        _ => 0,
     }
 }
 
@@ -98,78 +100,88 @@ pub fn places_after(places: u16, mention: Option<Mention>) -> u16
 pub fn number_at(numbers: &[u16], n: usize) -> u16
     ensures { result ≡ slice_index numbers.now n }
 {
-    if n < numbers.len() { numbers[n] } else { 0 }
+    numbers.get(n).copied().unwrap_or(0)
 }
 
-// The `count` mentions from `start` on are places, by a table of how many places
-// stand right before each mention.
-fn only_places(before: &[u16], start: u16, count: u16) -> bool
-    ensures { result ≡ counted_places before.now start count }
-{
-    count <= number_at(before, start as usize + count as usize)
+// The sizes of the tables, and how many places stand right before each mention.
+#[derive(Clone, Copy)]
+pub struct Places<'a> {
+    pub sizes: Sizes,
+    pub before: &'a [u16],
 }
 
-// A list of operands: at most 32 places.
-pub fn operands_fit(before: &[u16], mentions: usize, list: Run) -> bool
-    ensures { result ≡ operands_fit (counted_places before.now) mentions list }
-{
-    list_inside(mentions, list)
-        && list.count <= MAX_OPERANDS
-        && only_places(before, list.start, list.count)
-}
-
-// A list of lvalues: one at least.
-fn lvalues_fit(before: &[u16], mentions: usize, list: Run) -> bool
-    ensures { result ≡ lvalues_fit (counted_places before.now) mentions list }
-{
-    0 < list.count && operands_fit(before, mentions, list)
-}
-
-// A subject is a place.
-fn subject_fits(before: &[u16], mentions: usize, subject: u16) -> bool
-    ensures { result ≡ subject_fits (counted_places before.now) mentions subject }
-{
-    (subject as usize) < mentions && only_places(before, subject, 1)
-}
-
-pub fn phi_fits(sizes: Sizes, before: &[u16], phi: Phi) -> bool
-    ensures { result ≡ phi_fits sizes (counted_places before.now) phi }
-{
-    (phi.value as usize) < sizes.values && operands_fit(before, sizes.mentions, phi.operands)
-}
-
-fn kind_fits(sizes: Sizes, before: &[u16], kind: InstructionValue) -> bool
-    ensures { result ≡ kind_fits sizes (counted_places before.now) kind }
-{
-    match kind {
-        InstructionValue::Other => true,
-        InstructionValue::LoadLocal(place) => subject_fits(before, sizes.mentions, place),
-        InstructionValue::FunctionExpression(f) => (f as usize) < sizes.functions,
-        InstructionValue::CallExpression(callee, args) => {
-            subject_fits(before, sizes.mentions, callee) && list_inside(sizes.mentions, args)
-        }
-        InstructionValue::MethodCall(property, args) => {
-            subject_fits(before, sizes.mentions, property) && list_inside(sizes.mentions, args)
-        }
-        InstructionValue::ArrayExpression(elements) => list_inside(sizes.mentions, elements),
-        InstructionValue::LoadGlobal => true,
+impl<'a> Places<'a> {
+    // The mentions of a list are places.
+    fn only_places(&self, list: Run) -> bool
+        ensures { result ≡ counted_places self.now.before.now list.start list.count }
+    {
+        list.count <= number_at(self.before, end_of(list))
     }
-}
 
-pub fn instruction_fits(sizes: Sizes, before: &[u16], instruction: Instruction) -> bool
-    ensures { result ≡ instruction_fits sizes (counted_places before.now) instruction }
-{
-    lvalues_fit(before, sizes.mentions, instruction.lvalues)
-        && operands_fit(before, sizes.mentions, instruction.operands)
-        && kind_fits(sizes, before, instruction.value)
+    // A list of operands: at most 32 places.
+    pub fn operands_fit(&self, list: Run) -> bool
+        ensures { result ≡ operands_fit (counted_places self.now.before.now) self.now.sizes.mentions list }
+    {
+        list_inside(self.sizes.mentions, list)
+            && list.count <= MAX_OPERANDS
+            && self.only_places(list)
+    }
+
+    // A list of lvalues: one at least.
+    fn lvalues_fit(&self, list: Run) -> bool
+        ensures { result ≡ lvalues_fit (counted_places self.now.before.now) self.now.sizes.mentions list }
+    {
+        0 < list.count && self.operands_fit(list)
+    }
+
+    // A subject is a place.
+    fn subject_fits(&self, subject: u16) -> bool
+        ensures { result ≡ subject_fits (counted_places self.now.before.now) self.now.sizes.mentions subject }
+    {
+        let list = Run {
+            start: subject,
+            count: 1,
+        };
+        (subject as usize) < self.sizes.mentions && self.only_places(list)
+    }
+
+    pub fn phi_fits(&self, phi: Phi) -> bool
+        ensures { result ≡ phi_fits self.now.sizes (counted_places self.now.before.now) phi }
+    {
+        (phi.value as usize) < self.sizes.values && self.operands_fit(phi.operands)
+    }
+
+    fn kind_fits(&self, kind: InstructionValue) -> bool
+        ensures { result ≡ kind_fits self.now.sizes (counted_places self.now.before.now) kind }
+    {
+        match kind {
+            InstructionValue::Other | InstructionValue::LoadGlobal => true,
+            InstructionValue::LoadLocal(place) => self.subject_fits(place),
+            InstructionValue::FunctionExpression(f) => (f as usize) < self.sizes.functions,
+            InstructionValue::CallExpression(subject, args)
+            | InstructionValue::MethodCall(subject, args) => {
+                self.subject_fits(subject) && list_inside(self.sizes.mentions, args)
+            }
+            InstructionValue::ArrayExpression(elements) => {
+                list_inside(self.sizes.mentions, elements)
+            }
+        }
+    }
+
+    pub fn instruction_fits(&self, instruction: Instruction) -> bool
+        ensures { result ≡ instruction_fits self.now.sizes (counted_places self.now.before.now) instruction }
+    {
+        self.lvalues_fit(instruction.lvalues)
+            && self.operands_fit(instruction.operands)
+            && self.kind_fits(instruction.value)
+    }
 }
 
 pub fn mention_fits(sizes: Sizes, mention: Mention) -> bool
     ensures { result ≡ mention_fits sizes mention }
 {
     match mention {
-        Mention::Place(place) => (place.value as usize) < sizes.values,
-        Mention::Spread(place) => (place.value as usize) < sizes.values,
+        Mention::Place(place) | Mention::Spread(place) => (place.value as usize) < sizes.values,
         Mention::Hole => true,
     }
 }
