@@ -1,9 +1,12 @@
 -- The steps of looking for a name in the table.
 use Rattle.std.proofs.Common.{◌≡◌, ℕ, zero, suc, ◌+◌, ◌-◌, ◌%◌, ◌<◌, ◌≤◌, Bool, true, false, cond, if◌then◌else◌, is_none, ◌&&◌, eqb, ◌≢◌, ◌⊎◌, List, [], ◌∷◌, map, length, get_or, set, replicate, count_by, find, Some, None, Option, is_some, sym, refl, ap, ◌∙◌, subst, inl, inr, ⊎_elim, arith, length-set, zero-add}
-use Rattle.std.specs.List.{range_with_len}
+use Rattle.std.specs.List.{range_with_len, slice_get, position_or_len}
 use Rattle.std.proofs.lemmas.List.{get_or-set_same, get_or-set_other, length-replicate}
-use Rattle.std.proofs.lemmas.List.Sums.{sum_by-set, sum_by-cons}
-use Rattle.std.proofs.lemmas.Bool.{cases_eq, cases_order, cases_Bool, and_from, and_parts, eq-eqb, cond-true, cond-false}
+use Rattle.std.proofs.lemmas.List.Sums.{sum_by-set, sum_by-cons, passes_at_first, fails_before_first}
+use Rattle.std.proofs.lemmas.List.Folds.{find_at}
+use Rattle.std.proofs.lemmas.List.FromFn.{length-map-range_with_len, get_or-map-range_with_len}
+use Rattle.std.proofs.lemmas.Option.{slice_get_within, slice_get-get_or}
+use Rattle.std.proofs.lemmas.Bool.{cases_eq, cases_lt, cases_order, cases_Bool, and_from, and_parts, eq-eqb, cond-true, cond-false}
 use Rattle.rules.specs.Rules.{alike, name_at}
 use Rattle.names.specs.declared.Entry.{Entry}
 use Rattle.names.specs.Names.{NumberedName, bytes_of, hashed}
@@ -47,32 +50,6 @@ none_some x e = cc
 
 true_false : true ≡ false → ⊥
 true_false e = cc
-
--- the first of f a, f (a + 1), .. that passes the test
-module _ {X : Type 0} (p : X → Bool) (f : ℕ → X) where
-  found : (a n : ℕ) (x : X) → find p (map f (range_with_len a n)) ≡ Some x → (d : ℕ) × (x ≡ f (a + d)) × (p x ≡ true) × ((e : ℕ) → e < d → p (f (a + e)) ≡ false)
-  found a zero x h = cc
-  found a (suc n) x h =
-      ⊎_elim
-      (λ t.
-      let q : f a ≡ x = some_same (f a) x (sym (cond-true (p (f a)) (Some (f a)) _ t) ∙ h) in
-      (0, sym q ∙ ap f (omega arith), ap p (sym q) ∙ t, λ e l. absurd (omega arith)))
-      (λ t.
-      let r = found (a + 1) n x (sym (cond-false (p (f a)) (Some (f a)) _ t) ∙ h) in
-      (r.0 + 1, r.1 ∙ ap f (omega arith), r.2, after_first a r.0 t r.3))
-      (cases_Bool (p (f a)))
-    where
-      after_first : (a d : ℕ) → p (f a) ≡ false → ((e : ℕ) → e < d → p (f (a + 1 + e)) ≡ false) → (e : ℕ) → e < d + 1 → p (f (a + e)) ≡ false
-      after_first a d t h zero l = ap (λ k. p (f k)) (omega arith) ∙ t
-      after_first a d t h (suc e) l = ap (λ k. p (f k)) (omega arith) ∙ h e (omega arith)
-
-  passed : (a n : ℕ) → find p (map f (range_with_len a n)) ≡ None → (e : ℕ) → e < n → p (f (a + e)) ≡ false
-  passed a zero h e l = absurd (omega arith)
-  passed a (suc n) h zero l = ap (λ k. p (f k)) (omega arith) ∙ ⊎_elim (λ t. absurd (none_some (f a) (sym h ∙ cond-true (p (f a)) (Some (f a)) _ t))) (λ t. t) (cases_Bool (p (f a)))
-  passed a (suc n) h (suc e) l =
-      ⊎_elim (λ t. absurd (none_some (f a) (sym h ∙ cond-true (p (f a)) (Some (f a)) _ t)))
-      (λ t. ap (λ k. p (f k)) (omega arith) ∙ passed (a + 1) n (sym (cond-false (p (f a)) (Some (f a)) _ t) ∙ h) e (omega arith))
-      (cases_Bool (p (f a)))
 
 abbrev one : Option Entry → ℕ
 one o = cond (is_some o) 1 0
@@ -121,53 +98,60 @@ matching ns k i e a b q =
     (eq-eqb e.hash (hash_at ns i) (b ∙ ap hashed q))
     (same_alike (name_at ns i) (name_at ns e.name) (sym q ∙ ap (name_at ns) (sym a)))
 
+-- name i is written into its slot
 module _ (ns : List (List ℕ)) (t : Slots) (i s : ℕ) (o : Holds ns t i) (low : s < 4096) (f : Free ns t i s) where
+  abbrev new : Option Entry
+  new = Some (entry_of (numbered ns i))
+
+  abbrev after : Slots
+  after = set t s new
+
   fits : s < length t
   fits = omega (arith, o.long)
 
   -- a slot that is taken stays taken
-  stays : (u : ℕ) → at t u ≢ None → at (set t s (Some (entry_of (numbered ns i)))) u ≢ None
+  stays : (u : ℕ) → at t u ≢ None → at after u ≢ None
   stays u h q =
       ⊎_elim
       (λ a. none_some (entry_of (numbered ns i)) (sym q ∙ a.1))
       (λ b. h (sym b.1 ∙ q))
-      (after_set t s (Some (entry_of (numbered ns i))) u fits)
+      (after_set t s new u fits)
 
-  kept : (k : ℕ) → Home ns t k → Home ns (set t s (Some (entry_of (numbered ns i)))) k
+  kept : (k : ℕ) → Home ns t k → Home ns after k
   kept k w = (
     w.0,
     ⊎_elim
         (λ a. absurd (none_some (entry_of (numbered ns k)) (sym f.2 ∙ ap (at t) (sym a.0) ∙ w.1)))
         (λ b. b.1 ∙ w.1)
-        (after_set t s (Some (entry_of (numbered ns i))) (slot (hash_at ns k) w.0) fits),
+        (after_set t s new (slot (hash_at ns k) w.0) fits),
     λ e l. stays (slot (hash_at ns k) e) (w.2 e l),
   )
 
-  mine : Home ns (set t s (Some (entry_of (numbered ns i)))) i
+  mine : Home ns after i
   mine = (
     f.0,
-    ap (at (set t s (Some (entry_of (numbered ns i))))) (sym f.1) ∙ get_or-set_same t s (Some (entry_of (numbered ns i))) None fits,
+    ap (at after) (sym f.1) ∙ get_or-set_same t s new None fits,
     λ e l. stays (slot (hash_at ns i) e) (λ q. passes_none (numbered ns i) (at t (slot (hash_at ns i) e)) q (f.3 e l)),
   )
 
-  put : Holds ns (set t s (Some (entry_of (numbered ns i)))) (i + 1)
+  put : Holds ns after (i + 1)
   put =
       record {
-        long = length-set t s (Some (entry_of (numbered ns i))) ∙ o.long;
+        long = length-set t s new ∙ o.long;
         low = λ u e q.
             ⊎_elim
             (λ a. let n : e.name ≡ i = ap (λ (z : Entry). z.name) (some_same e (entry_of (numbered ns i)) (sym q ∙ a.1)) in omega (arith, n))
             (λ b. omega (arith, o.low u e (sym b.1 ∙ q)))
-            (after_set t s (Some (entry_of (numbered ns i))) u fits);
+            (after_set t s new u fits);
         hash = λ u e q.
             ⊎_elim
             (λ a. let n = some_same e (entry_of (numbered ns i)) (sym q ∙ a.1) in ap (λ (z : Entry). z.hash) n ∙ ap (λ (z : Entry). hash_at ns z.name) (sym n))
             (λ b. o.hash u e (sym b.1 ∙ q))
-            (after_set t s (Some (entry_of (numbered ns i))) u fits);
-        few = omega (arith, sum_by-set one t s (Some (entry_of (numbered ns i))) None fits, at_most (Some (entry_of (numbered ns i))), o.few);
+            (after_set t s new u fits);
+        few = omega (arith, sum_by-set one t s new None fits, at_most new, o.few);
         home = λ k l.
             ⊎_elim
-            (λ e. let P : ℕ → Type 0 = λ z. Home ns (set t s (Some (entry_of (numbered ns i)))) z in subst P (sym e) mine)
+            (λ e. let P : ℕ → Type 0 = λ z. Home ns after z in subst P (sym e) mine)
             (λ ne. kept k (o.home k (omega arith)))
             (cases_eq k i);
       }
@@ -233,11 +217,28 @@ module _ (ns : List (List ℕ)) (t : Slots) (i : ℕ) where
 
   stopped : (n s : ℕ) → find ends (map (slot (hash_at ns i)) (range_with_len 0 n)) ≡ Some s → (ends s ≡ true) × ((d : ℕ) × (s ≡ slot (hash_at ns i) d) × Passed ns t i d)
   stopped n s e =
-      let w = found ends (slot (hash_at ns i)) 0 n s e in
-      (w.2, (w.0, w.1 ∙ ap (slot (hash_at ns i)) (zero-add w.0), λ u l. ap (λ k. ends (slot (hash_at ns i) k)) (sym (zero-add u)) ∙ w.3 u l))
+      let xs = map (slot (hash_at ns i)) (range_with_len 0 n) in
+      let d = position_or_len ends xs in
+      let r : slice_get xs d ≡ Some s = sym (find_at ends xs) ∙ e in
+      let l : d < length xs = slice_get_within xs d s r in
+      let len = length-map-range_with_len (slot (hash_at ns i)) 0 n in
+      let s_is : get_or xs d s ≡ s = some_same (get_or xs d s) s (sym (slice_get-get_or xs d s l) ∙ r) in
+      (
+        ap ends (sym s_is) ∙ passes_at_first ends xs s l,
+        (
+          d,
+          sym s_is ∙ get_or-map-range_with_len (slot (hash_at ns i)) 0 n d d s (omega arith) (omega arith),
+          λ u m. ap ends (sym (get_or-map-range_with_len (slot (hash_at ns i)) 0 n u u s (omega arith) (omega arith))) ∙ fails_before_first ends xs u s m,
+        ),
+      )
 
   never : (n : ℕ) → find ends (map (slot (hash_at ns i)) (range_with_len 0 n)) ≡ None → Passed ns t i n
-  never n e u l = ap (λ k. ends (slot (hash_at ns i) k)) (sym (zero-add u)) ∙ passed ends (slot (hash_at ns i)) 0 n e u l
+  never n e u m =
+      let xs = map (slot (hash_at ns i)) (range_with_len 0 n) in
+      let d = position_or_len ends xs in
+      let len = length-map-range_with_len (slot (hash_at ns i)) 0 n in
+      let past : (d < n) → ⊥ = λ l. none_some (get_or xs d 0) (sym e ∙ find_at ends xs ∙ slice_get-get_or xs d 0 (omega arith)) in
+      ap ends (sym (get_or-map-range_with_len (slot (hash_at ns i)) 0 n u u 0 m (omega arith))) ∙ fails_before_first ends xs u 0 (⊎_elim (λ l. absurd (past l)) (λ l. omega arith) (cases_lt d n))
 
   last_stopped : (s : ℕ) → last_slot t (numbered ns i) ≡ Some s → (ends s ≡ true) × ((d : ℕ) × (s ≡ slot (hash_at ns i) d) × Passed ns t i d)
   unfolding last_slot
