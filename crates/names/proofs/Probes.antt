@@ -1,15 +1,15 @@
 -- The steps of looking for a name in the table.
-use Rattle.std.proofs.Common.{◌≡◌, ℕ, zero, suc, ◌+◌, ◌-◌, ◌%◌, ◌<◌, ◌≤◌, Bool, true, false, cond, if◌then◌else◌, is_none, ◌&&◌, eqb, ◌≢◌, ◌⊎◌, List, [], ◌∷◌, map, length, get_or, set, replicate, count_by, find, Some, None, Option, is_some, sym, refl, ap, ◌∙◌, subst, inl, inr, ⊎_elim, arith, length-set, zero-add}
+use Rattle.std.proofs.Common.{◌≡◌, ℕ, zero, suc, ◌+◌, ◌-◌, ◌%◌, ◌<◌, ◌≤◌, Bool, true, false, cond, if◌then◌else◌, is_none, eqb, ◌≢◌, ◌⊎◌, List, [], ◌∷◌, map, length, get_or, set, replicate, count_by, find, Some, None, Option, is_some, sym, refl, ap, ◌∙◌, subst, inl, inr, ⊎_elim, arith, length-set}
 use Rattle.std.specs.List.{range_with_len, slice_get, position_or_len}
 use Rattle.std.proofs.lemmas.List.{get_or-set_same, get_or-set_other, length-replicate}
 use Rattle.std.proofs.lemmas.List.Sums.{sum_by-set, sum_by-cons, passes_at_first, fails_before_first}
 use Rattle.std.proofs.lemmas.List.Folds.{find_at}
 use Rattle.std.proofs.lemmas.List.FromFn.{length-map-range_with_len, get_or-map-range_with_len}
 use Rattle.std.proofs.lemmas.Option.{slice_get_within, slice_get-get_or}
-use Rattle.std.proofs.lemmas.Bool.{cases_eq, cases_lt, cases_order, cases_Bool, and_from, and_parts, eq-eqb, cond-true, cond-false}
+use Rattle.std.proofs.lemmas.Bool.{cases_eq, cases_lt, cases_order, and_from, and_parts, eq-eqb}
 use Rattle.rules.specs.Rules.{alike, name_at}
 use Rattle.names.specs.declared.Entry.{Entry}
-use Rattle.names.specs.Names.{NumberedName, bytes_of, hashed}
+use Rattle.names.specs.Names.{NumberedName, hashed}
 use Rattle.names.specs.Slots.{Slots, at, slot, entry_of, matches, ends_search, last_slot, if_free, free_slot, written, with_name}
 use Rattle.names.proofs.Twins.{Twin, alike_same, same_alike}
 
@@ -222,8 +222,7 @@ module _ (ns : List (List ℕ)) (t : Slots) (i : ℕ) where
       let r : slice_get xs d ≡ Some s = sym (find_at ends xs) ∙ e in
       let l : d < length xs = slice_get_within xs d s r in
       let len = length-map-range_with_len (slot (hash_at ns i)) 0 n in
-      let s_is : get_or xs d s ≡ s = some_same (get_or xs d s) s (sym (slice_get-get_or xs d s l) ∙ r) in
-      (
+      let s_is : get_or xs d s ≡ s = some_same (get_or xs d s) s (sym (slice_get-get_or xs d s l) ∙ r) in (
         ap ends (sym s_is) ∙ passes_at_first ends xs s l,
         (
           d,

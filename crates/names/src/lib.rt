@@ -51,6 +51,13 @@ fn length_fits(len: usize) -> bool
     0 < len && len <= MAX_LENGTH
 }
 
+// A name in a slot, by its number, with its hash.
+#[derive(Clone, Copy)]
+struct Entry {
+    name: u16,
+    hash: u32,
+}
+
 // A name of a fitting length, by its number.
 #[derive(Drop)]
 struct Name<'a, C: Component> {
@@ -65,11 +72,16 @@ impl<'a, C: Component> Model for Name<'a, C> {
 
     ghost view = { λ s. record { names = (C.Component.meaning s.component.now).names; number = s.n } };
 
-    ghost invariant = { λ s. record { len : s.len ≡ length (name_at (C.Component.meaning s.component.now).names s.n); hash : s.hash ≡ hashed (name_at (C.Component.meaning s.component.now).names s.n) } };
+    ghost invariant = { λ s. record {
+      few : s.n < 2048;
+      len : s.len ≡ length (name_at (C.Component.meaning s.component.now).names s.n);
+      hash : s.hash ≡ hashed (name_at (C.Component.meaning s.component.now).names s.n);
+    } };
 }
 
 impl<'a, C: Component> Name<'a, C> {
     fn new(component: &'a C, n: usize) -> Option<Self>
+        requires { n < 2048 }
         ensures fits { is_some result ≡ length_fits (length (name_at (C.Component.meaning component.now).names n)) }
         ensures name { IfSome result (λ x. x ≡ record { names = (C.Component.meaning component.now).names; number = n }) }
     {
@@ -88,7 +100,6 @@ impl<'a, C: Component> Name<'a, C> {
 
     // The name as an entry of a table.
     fn entry(&self) -> Entry
-        requires { self.now.number < 2048 }
         ensures { result ≡ entry_of self.now }
     {
         Entry {
@@ -131,6 +142,7 @@ impl<'a, C: Component> Name<'a, C> {
     fn ends_search(&self, slot: Option<Entry>) -> bool
         ensures { result ≡ ends_search self.now slot }
     {
+        // A `match`: with `is_none_or` and a closure the proof did not close.
         match slot {
             Some(entry) => self.matches(entry),
             None => true,
@@ -144,13 +156,6 @@ impl<'a, C: Component> Name<'a, C> {
     {
         (self.hash as usize + d) % SLOTS
     }
-}
-
-// A name in a slot, by its number, with its hash.
-#[derive(Clone, Copy)]
-struct Entry {
-    name: u16,
-    hash: u32,
 }
 
 // Names of a component in slots: each stands at the first slot from its hash on that
@@ -192,7 +197,6 @@ impl NameTable {
 
     // Adds the name, if none like it is in the table.
     fn insert<C: Component>(&mut self, name: &Name<C>) -> bool
-        requires { name.now.number < 2048 }
         ensures new { result ≡ is_some (free_slot self.old.slots name.now) }
         ensures slots { self.new.slots ≡ with_name self.old.slots name.now }
     {
@@ -211,6 +215,8 @@ pub fn first_failing_name<C: Component>(component: &C, names: usize) -> Option<u
     ensures { result ≡ name_breach (C.Component.meaning component.now) }
 {
     let mut table = NameTable::new();
+    // A `for`, since each step changes the table: a closure of `find` that did so would
+    // prove nothing of it.
     for n in 0..names {
         let Some(name) = Name::new(component, n) else {
             return Some(n);

@@ -1,9 +1,9 @@
-use Rattle.std.proofs.Common.{◌≡◌, ℕ, ◌+◌, length, true, false, sym, refl, ap, ◌∙◌, subst, arith}
+use Rattle.std.proofs.Common.{◌≡◌, ◌+◌, length, sym, refl, ap, ◌∙◌, subst, arith}
 use Rattle.rules.specs.Lists.{first_failing}
-use Rattle.rules.specs.Rules.{name_at, name_stands, length_fits}
+use Rattle.rules.specs.Rules.{name_stands}
 use Rattle.rules.specs.Admission.{name_breach}
 use Rattle.rules.proofs.Failing.{none_more, first_here}
-use Rattle.names.specs.Slots.{Slots, with_name}
+use Rattle.names.specs.Slots.{Slots}
 use Rattle.names.proofs.Probes.{Holds, empty, added, not_added}
 use Rattle.names.proofs.Twins.{stands_apart, fails_twin, fails_length}
 use Rattle.names.proofs.first_failing_name.Goals as goal
