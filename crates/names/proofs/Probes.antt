@@ -42,15 +42,6 @@ pub record Holds (ns : List (List ℕ)) (t : Slots) (n : ℕ) : Type 0 where
   pub few : used t ≤ n
   pub home : (k : ℕ) → k < n → Home ns t k
 
-some_same : {X : Type 0} (x y : X) → Some x ≡ Some y → x ≡ y
-some_same x y e = cc
-
-none_some : {X : Type 0} (x : X) → None ≡ Some x → ⊥
-none_some x e = cc
-
-true_false : true ≡ false → ⊥
-true_false e = cc
-
 abbrev one : Option Entry → ℕ
 one o = cond (is_some o) 1 0
 
@@ -113,7 +104,7 @@ module _ (ns : List (List ℕ)) (t : Slots) (i s : ℕ) (o : Holds ns t i) (low 
   stays : (u : ℕ) → at t u ≢ None → at after u ≢ None
   stays u h q =
       ⊎_elim
-      (λ a. none_some (entry_of (numbered ns i)) (sym q ∙ a.1))
+      (λ a. cc)
       (λ b. h (sym b.1 ∙ q))
       (after_set t s new u fits)
 
@@ -121,7 +112,7 @@ module _ (ns : List (List ℕ)) (t : Slots) (i s : ℕ) (o : Holds ns t i) (low 
   kept k w = (
     w.0,
     ⊎_elim
-        (λ a. absurd (none_some (entry_of (numbered ns k)) (sym f.2 ∙ ap (at t) (sym a.0) ∙ w.1)))
+        (λ a. absurd (cc (sym f.2 ∙ ap (at t) (sym a.0) ∙ w.1)))
         (λ b. b.1 ∙ w.1)
         (after_set t s new (slot (hash_at ns k) w.0) fits),
     λ e l. stays (slot (hash_at ns k) e) (w.2 e l),
@@ -140,12 +131,12 @@ module _ (ns : List (List ℕ)) (t : Slots) (i s : ℕ) (o : Holds ns t i) (low 
         long = length-set t s new ∙ o.long;
         low = λ u e q.
             ⊎_elim
-            (λ a. let n : e.name ≡ i = ap (λ (z : Entry). z.name) (some_same e (entry_of (numbered ns i)) (sym q ∙ a.1)) in omega (arith, n))
+            (λ a. let n : e.name ≡ i = cc in omega (arith, n))
             (λ b. omega (arith, o.low u e (sym b.1 ∙ q)))
             (after_set t s new u fits);
         hash = λ u e q.
             ⊎_elim
-            (λ a. let n = some_same e (entry_of (numbered ns i)) (sym q ∙ a.1) in ap (λ (z : Entry). z.hash) n ∙ ap (λ (z : Entry). hash_at ns z.name) (sym n))
+            (λ a. let n : e ≡ entry_of (numbered ns i) = cc in ap (λ (z : Entry). z.hash) n ∙ ap (λ (z : Entry). hash_at ns z.name) (sym n))
             (λ b. o.hash u e (sym b.1 ∙ q))
             (after_set t s new u fits);
         few = omega (arith, sum_by-set one t s new None fits, at_most new, o.few);
@@ -163,13 +154,13 @@ module _ (ns : List (List ℕ)) (t : Slots) (i s : ℕ) (o : Holds ns t i) (low 
       let h : slot (hash_at ns k) w.0 ≡ slot (hash_at ns i) w.0 = ap (λ z. slot (hashed z) w.0) e in
       let here : at t (slot (hash_at ns i) w.0) ≡ Some (entry_of (numbered ns k)) = ap (at t) (sym h) ∙ w.1 in
       ⊎_elim
-      (λ q. none_some (entry_of (numbered ns k)) (sym f.2 ∙ ap (at t) (f.1 ∙ ap (slot (hash_at ns i)) (sym q)) ∙ here))
+      (λ q. cc (sym f.2 ∙ ap (at t) (f.1 ∙ ap (slot (hash_at ns i)) (sym q)) ∙ here))
       (λ r.
       ⊎_elim
       (λ a.
       let m = matching ns k i (entry_of (numbered ns k)) refl refl e in
       let n : ends_search (numbered ns i) (Some (entry_of (numbered ns k))) ≡ false = ap (ends_search (numbered ns i)) (sym here) ∙ f.3 w.0 a in
-      true_false (sym m ∙ n))
+      cc)
       (λ a. w.2 f.0 a (ap (λ z. at t (slot (hashed z) f.0)) e ∙ ap (at t) (sym f.1) ∙ f.2))
       r)
       (cases_order w.0 f.0)
@@ -187,8 +178,8 @@ pub empty : (ns : List (List ℕ)) → Holds ns (replicate 4096 None) 0
 empty ns =
     record {
       long = length-replicate {A = Option Entry} 4096 None;
-      low = λ s e q. absurd (none_some e (sym (none_at 4096 s) ∙ q));
-      hash = λ s e q. absurd (none_some e (sym (none_at 4096 s) ∙ q));
+      low = λ s e q. absurd (cc (none_at 4096 s));
+      hash = λ s e q. absurd (cc (none_at 4096 s));
       few = omega (arith, used_none 4096);
       home = λ k l. absurd (omega arith);
     }
@@ -196,15 +187,15 @@ empty ns =
 -- where a search ends
 
 by_slot : (t : Slots) (u s : ℕ) (o : Option Entry) → at t u ≡ o → (if is_none o then Some u else None) ≡ Some s → (Some u ≡ Some s) × (at t s ≡ None)
-by_slot t u s None q e = (e, ap (at t) (sym (some_same u s e)) ∙ q)
-by_slot t u s (Some x) q e = absurd (none_some s e)
+by_slot t u s None q e = (e, ap (at t) (sym (cc)) ∙ q)
+by_slot t u s (Some x) q e = cc
 
 free_end : (t : Slots) (l : Option ℕ) (s : ℕ) → if_free t l ≡ Some s → (l ≡ Some s) × (at t s ≡ None)
-free_end t None s e = absurd (none_some s e)
+free_end t None s e = cc
 free_end t (Some u) s e = by_slot t u s (at t u) refl e
 
 by_taken : (u : ℕ) (o : Option Entry) → (if is_none o then Some u else None) ≡ None → (e : Entry) × (o ≡ Some e)
-by_taken u None q = absurd (none_some u (sym q))
+by_taken u None q = cc
 by_taken u (Some e) q = (e, refl)
 
 taken_end : (t : Slots) (l : Option ℕ) → if_free t l ≡ None → (l ≡ None) ⊎ ((s : ℕ) × (e : Entry) × (l ≡ Some s) × (at t s ≡ Some e))
@@ -222,7 +213,7 @@ module _ (ns : List (List ℕ)) (t : Slots) (i : ℕ) where
       let r : slice_get xs d ≡ Some s = sym (find_at ends xs) ∙ e in
       let l : d < length xs = slice_get_within xs d s r in
       let len = length-map-range_with_len (slot (hash_at ns i)) 0 n in
-      let s_is : get_or xs d s ≡ s = some_same (get_or xs d s) s (sym (slice_get-get_or xs d s l) ∙ r) in (
+      let s_is : get_or xs d s ≡ s = cc (slice_get-get_or xs d s l) in (
         ap ends (sym s_is) ∙ passes_at_first ends xs s l,
         (
           d,
@@ -236,7 +227,7 @@ module _ (ns : List (List ℕ)) (t : Slots) (i : ℕ) where
       let xs = map (slot (hash_at ns i)) (range_with_len 0 n) in
       let d = position_or_len ends xs in
       let len = length-map-range_with_len (slot (hash_at ns i)) 0 n in
-      let past : (d < n) → ⊥ = λ l. none_some (get_or xs d 0) (sym e ∙ find_at ends xs ∙ slice_get-get_or xs d 0 (omega arith)) in
+      let past : (d < n) → ⊥ = λ l. cc (sym e ∙ find_at ends xs ∙ slice_get-get_or xs d 0 (omega arith)) in
       ap ends (sym (get_or-map-range_with_len (slot (hash_at ns i)) 0 n u u 0 m (omega arith))) ∙ fails_before_first ends xs u 0 (⊎_elim (λ l. absurd (past l)) (λ l. omega arith) (cases_lt d n))
 
   last_stopped : (s : ℕ) → last_slot t (numbered ns i) ≡ Some s → (ends s ≡ true) × ((d : ℕ) × (s ≡ slot (hash_at ns i) d) × Passed ns t i d)
@@ -269,10 +260,10 @@ module _ (ns : List (List ℕ)) (t : Slots) (i : ℕ) where
 
   twin_when : Holds ns t i → i ≤ 2048 → (l : Option ℕ) → free_slot t (numbered ns i) ≡ l → false ≡ is_some l → Twin ns i
   twin_when o l None q e = has_twin o l q
-  twin_when o l (Some s) q e = absurd (true_false (sym e))
+  twin_when o l (Some s) q e = cc
 
   added_when : Holds ns t i → (l : Option ℕ) → free_slot t (numbered ns i) ≡ l → true ≡ is_some l → Holds ns (written t (numbered ns i) l) (i + 1) × ((k : ℕ) → k < i → name_at ns k ≡ name_at ns i → ⊥)
-  added_when o None q e = absurd (true_false e)
+  added_when o None q e = absurd (cc)
   added_when o (Some s) q e =
       let f = is_free s q in
       let low : s < 4096 = omega (arith, f.1) in
