@@ -7,6 +7,7 @@ use Rattle.std.proofs.lemmas.List.Folds.{find_at}
 use Rattle.std.proofs.lemmas.List.FromFn.{length-map-range_with_len, get_or-map-range_with_len}
 use Rattle.std.proofs.lemmas.Option.{slice_get_within, slice_get-get_or}
 use Rattle.std.proofs.lemmas.Bool.{cases_eq, cases_lt, cases_order, and_from, and_parts, eq-eqb}
+use Rattle.std.proofs.lemmas.Grind.{common_steps}
 use Rattle.rules.specs.Rules.{alike, name_at}
 use Rattle.names.specs.declared.Entry.{Entry}
 use Rattle.names.specs.Names.{NumberedName, hashed}
@@ -46,8 +47,7 @@ abbrev one : Option Entry → ℕ
 one o = cond (is_some o) 1 0
 
 at_most : (o : Option Entry) → one o ≤ 1
-at_most None = omega arith
-at_most (Some e) = omega arith
+at_most o = grind (arith, common_steps)
 
 all_used : (t : Slots) → ((s : ℕ) → s < length t → at t s ≢ None) → length t ≤ used t
 all_used [] h = omega arith
@@ -62,7 +62,7 @@ onto h s l = ((s + (4096 - h % 4096)) % 4096, omega arith, omega arith)
 
 -- a search does not pass a free slot
 passes_none : (x : NumberedName) (o : Option Entry) → o ≡ None → ends_search x o ≡ false → ⊥
-passes_none x o q e = let P : Option Entry → Type 0 = λ z. ends_search x z ≡ false in let z = subst P q e in cc
+passes_none x o q e = grind (arith, common_steps)
 
 -- a table with so few names has a free slot
 not_full : (ns : List (List ℕ)) (t : Slots) (i d : ℕ) → Holds ns t i → i ≤ 2048 → 4096 ≤ d → Passed ns t i d → ⊥
@@ -75,19 +75,12 @@ not_full ns t i d o l e p =
 
 after_set : (t : Slots) (v : ℕ) (x : Option Entry) (u : ℕ) → v < length t → ((u ≡ v) × (at (set t v x) u ≡ x)) ⊎ ((u ≢ v) × (at (set t v x) u ≡ at t u))
 after_set t v x u h =
-    ⊎_elim
-    (λ e. inl (e, ap (at (set t v x)) e ∙ get_or-set_same t v x None h))
-    (λ ne. inr (ne, get_or-set_other t v u x None ne))
-    (cases_eq u v)
+    grind (arith, common_steps)
 
 -- an entry of a name like name i matches it
 matching : (ns : List (List ℕ)) (k i : ℕ) (e : Entry) → e.name ≡ k → e.hash ≡ hash_at ns k → name_at ns k ≡ name_at ns i → matches (numbered ns i) e ≡ true
 matching ns k i e a b q =
-    and_from
-    (eqb e.hash (hash_at ns i))
-    (alike (name_at ns i) (name_at ns e.name))
-    (eq-eqb e.hash (hash_at ns i) (b ∙ ap hashed q))
-    (same_alike (name_at ns i) (name_at ns e.name) (sym q ∙ ap (name_at ns) (sym a)))
+    grind (arith, common_steps, same_alike (name_at ns i) (name_at ns e.name))
 
 -- name i is written into its slot
 module _ (ns : List (List ℕ)) (t : Slots) (i s : ℕ) (o : Holds ns t i) (low : s < 4096) (f : Free ns t i s) where
@@ -103,10 +96,7 @@ module _ (ns : List (List ℕ)) (t : Slots) (i s : ℕ) (o : Holds ns t i) (low 
   -- a slot that is taken stays taken
   stays : (u : ℕ) → at t u ≢ None → at after u ≢ None
   stays u h q =
-      ⊎_elim
-      (λ a. cc)
-      (λ b. h (sym b.1 ∙ q))
-      (after_set t s new u fits)
+      grind (arith, common_steps, fits)
 
   kept : (k : ℕ) → Home ns t k → Home ns after k
   kept k w = (
@@ -129,16 +119,8 @@ module _ (ns : List (List ℕ)) (t : Slots) (i s : ℕ) (o : Holds ns t i) (low 
   put =
       record {
         long = length-set t s new ∙ o.long;
-        low = λ u e q.
-            ⊎_elim
-            (λ a. let n : e.name ≡ i = cc in omega (arith, n))
-            (λ b. omega (arith, o.low u e (sym b.1 ∙ q)))
-            (after_set t s new u fits);
-        hash = λ u e q.
-            ⊎_elim
-            (λ a. let n : e ≡ entry_of (numbered ns i) = cc in ap (λ (z : Entry). z.hash) n ∙ ap (λ (z : Entry). hash_at ns z.name) (sym n))
-            (λ b. o.hash u e (sym b.1 ∙ q))
-            (after_set t s new u fits);
+        low = λ u e q. grind (arith, common_steps, after_set t s new u fits, o.low u e);
+        hash = λ u e q. grind (arith, common_steps, after_set t s new u fits, o.hash u e);
         few = omega (arith, sum_by-set one t s new None fits, at_most new, o.few);
         home = λ k l.
             ⊎_elim
@@ -186,13 +168,8 @@ empty ns =
 
 -- where a search ends
 
-by_slot : (t : Slots) (u s : ℕ) (o : Option Entry) → at t u ≡ o → (if is_none o then Some u else None) ≡ Some s → (Some u ≡ Some s) × (at t s ≡ None)
-by_slot t u s None q e = (e, ap (at t) (sym (cc)) ∙ q)
-by_slot t u s (Some x) q e = cc
-
 free_end : (t : Slots) (l : Option ℕ) (s : ℕ) → if_free t l ≡ Some s → (l ≡ Some s) × (at t s ≡ None)
-free_end t None s e = cc
-free_end t (Some u) s e = by_slot t u s (at t u) refl e
+free_end t l s e = grind (arith, common_steps)
 
 by_taken : (u : ℕ) (o : Option Entry) → (if is_none o then Some u else None) ≡ None → (e : Entry) × (o ≡ Some e)
 by_taken u None q = cc
@@ -247,8 +224,7 @@ module _ (ns : List (List ℕ)) (t : Slots) (i : ℕ) where
 
   taken_twin : Holds ns t i → (s : ℕ) (e : Entry) → at t s ≡ Some e → ends s ≡ true → Twin ns i
   taken_twin o s e q r =
-      let m : matches (numbered ns i) e ≡ true = ap (ends_search (numbered ns i)) (sym q) ∙ r in
-      (e.name, o.low s e q, sym (alike_same (name_at ns i) (name_at ns e.name) (and_parts (eqb e.hash (hash_at ns i)) (alike (name_at ns i) (name_at ns e.name)) m).1))
+      (e.name, o.low s e q, grind (arith, common_steps, alike_same (name_at ns i) (name_at ns e.name)))
 
   has_twin : Holds ns t i → i ≤ 2048 → free_slot t (numbered ns i) ≡ None → Twin ns i
   unfolding free_slot
