@@ -101,18 +101,15 @@ module _ (ns : List (List ℕ)) (t : Slots) (i s : ℕ) (o : Holds ns t i) (low 
   kept : (k : ℕ) → Home ns t k → Home ns after k
   kept k w = (
     w.0,
-    ⊎_elim
-        (λ a. absurd (cc (sym f.2 ∙ ap (at t) (sym a.0) ∙ w.1)))
-        (λ b. b.1 ∙ w.1)
-        (after_set t s new (slot (hash_at ns k) w.0) fits),
+    grind (arith, common_steps, after_set t s new (slot (hash_at ns k) w.0) fits, w.1, f.2),
     λ e l. stays (slot (hash_at ns k) e) (w.2 e l),
   )
 
   mine : Home ns after i
   mine = (
     f.0,
-    ap (at after) (sym f.1) ∙ get_or-set_same t s new None fits,
-    λ e l. stays (slot (hash_at ns i) e) (λ q. passes_none (numbered ns i) (at t (slot (hash_at ns i) e)) q (f.3 e l)),
+    grind (arith, common_steps, f.1, fits),
+    λ e l. stays (slot (hash_at ns i) e) (grind (arith, common_steps, f.3 e l)),
   )
 
   put : Holds ns after (i + 1)
@@ -136,14 +133,12 @@ module _ (ns : List (List ℕ)) (t : Slots) (i s : ℕ) (o : Holds ns t i) (low 
       let h : slot (hash_at ns k) w.0 ≡ slot (hash_at ns i) w.0 = ap (λ z. slot (hashed z) w.0) e in
       let here : at t (slot (hash_at ns i) w.0) ≡ Some (entry_of (numbered ns k)) = ap (at t) (sym h) ∙ w.1 in
       ⊎_elim
-      (λ q. cc (sym f.2 ∙ ap (at t) (f.1 ∙ ap (slot (hash_at ns i)) (sym q)) ∙ here))
+      (λ q. grind (arith, common_steps, f.1, f.2, here))
       (λ r.
       ⊎_elim
       (λ a.
-      let m = matching ns k i (entry_of (numbered ns k)) refl refl e in
-      let n : ends_search (numbered ns i) (Some (entry_of (numbered ns k))) ≡ false = ap (ends_search (numbered ns i)) (sym here) ∙ f.3 w.0 a in
-      cc)
-      (λ a. w.2 f.0 a (ap (λ z. at t (slot (hashed z) f.0)) e ∙ ap (at t) (sym f.1) ∙ f.2))
+      grind (arith, common_steps, matching ns k i (entry_of (numbered ns k)) refl refl e, here, f.3 w.0 a))
+      (λ a. grind (arith, common_steps, w.2 f.0 a, f.1, f.2))
       r)
       (cases_order w.0 f.0)
 
