@@ -1,14 +1,14 @@
 -- The steps of looking for a name in the table.
-use Rattle.std.proofs.Common.{◌≡◌, ℕ, zero, suc, ◌+◌, ◌-◌, ◌%◌, ◌<◌, ◌≤◌, Bool, true, false, cond, if◌then◌else◌, is_none, eqb, ◌≢◌, ◌⊎◌, List, [], ◌∷◌, map, length, get_or, set, replicate, count_by, find, Some, None, Option, is_some, sym, refl, ap, ◌∙◌, subst, inl, inr, ⊎_elim, arith, length-set}
+use Rattle.std.proofs.Common.{◌≡◌, ℕ, zero, suc, ◌+◌, ◌-◌, ◌%◌, ◌<◌, ◌≤◌, Bool, true, false, cond, if◌then◌else◌, is_none, ◌≢◌, ◌⊎◌, List, [], ◌∷◌, map, length, get_or, set, replicate, count_by, find, Some, None, Option, is_some, sym, refl, ap, ◌∙◌, subst, inl, inr, ⊎_elim, arith, length-set}
 use Rattle.std.specs.List.{range_with_len, slice_get, position_or_len}
-use Rattle.std.proofs.lemmas.List.{get_or-set_same, get_or-set_other, length-replicate}
+use Rattle.std.proofs.lemmas.List.{length-replicate}
 use Rattle.std.proofs.lemmas.List.Sums.{sum_by-set, sum_by-cons, passes_at_first, fails_before_first}
 use Rattle.std.proofs.lemmas.List.Folds.{find_at}
 use Rattle.std.proofs.lemmas.List.FromFn.{length-map-range_with_len, get_or-map-range_with_len}
 use Rattle.std.proofs.lemmas.Option.{slice_get_within, slice_get-get_or}
-use Rattle.std.proofs.lemmas.Bool.{cases_eq, cases_lt, cases_order, and_from, and_parts, eq-eqb}
+use Rattle.std.proofs.lemmas.Bool.{cases_eq, cases_lt, cases_order}
 use Rattle.std.proofs.lemmas.Grind.{common_steps}
-use Rattle.rules.specs.Rules.{alike, name_at}
+use Rattle.rules.specs.Rules.{name_at}
 use Rattle.names.specs.declared.Entry.{Entry}
 use Rattle.names.specs.Names.{NumberedName, hashed}
 use Rattle.names.specs.Slots.{Slots, at, slot, entry_of, matches, ends_search, last_slot, if_free, free_slot, written, with_name}
@@ -130,16 +130,10 @@ module _ (ns : List (List ℕ)) (t : Slots) (i s : ℕ) (o : Holds ns t i) (low 
   other : (k : ℕ) → k < i → name_at ns k ≡ name_at ns i → ⊥
   other k l e =
       let w = o.home k l in
-      let h : slot (hash_at ns k) w.0 ≡ slot (hash_at ns i) w.0 = ap (λ z. slot (hashed z) w.0) e in
-      let here : at t (slot (hash_at ns i) w.0) ≡ Some (entry_of (numbered ns k)) = ap (at t) (sym h) ∙ w.1 in
+      let m = matching ns k i (entry_of (numbered ns k)) refl refl e in
       ⊎_elim
-      (λ q. grind (arith, common_steps, f.1, f.2, here))
-      (λ r.
-      ⊎_elim
-      (λ a.
-      grind (arith, common_steps, matching ns k i (entry_of (numbered ns k)) refl refl e, here, f.3 w.0 a))
-      (λ a. grind (arith, common_steps, w.2 f.0 a, f.1, f.2))
-      r)
+      (λ q. grind (arith, common_steps, w.1, f.1, f.2, e))
+      (⊎_elim (λ a. grind (arith, common_steps, m, w.1, f.3 w.0 a, e)) (λ a. grind (arith, common_steps, w.2 f.0 a, f.1, f.2, e)))
       (cases_order w.0 f.0)
 
 none_at : (n s : ℕ) → at (replicate n None) s ≡ None
