@@ -1,25 +1,44 @@
 -- The bytes of a name, asked one by one.
-use Rattle.std.proofs.Common.{◌≡◌, ℕ, zero, suc, ◌+◌, ◌<◌, List, [], ◌∷◌, map, length, get_or, take, Some, sym, refl, ap, ◌∙◌, arith}
-use Rattle.std.specs.List.{slice_get}
-use Rattle.std.proofs.lemmas.List.{same_lists}
-use Rattle.std.proofs.lemmas.Option.{slice_get-get_or}
-use Rattle.std.proofs.lemmas.List.Sums.{fold_more}
-use Rattle.rules.specs.Rules.{name_at}
-use Rattle.names.specs.Slots.{mixed, mixed_in, hashed, length_or_none}
+use Rattle.std.proofs.Common.{◌≡◌, ℕ, zero, suc, ◌+◌, ◌≢◌, Bool, false, ◌&&◌, eqb, List, [], ◌∷◌, map, length, fold, refl, ap, ◌∙◌, arith}
+use Rattle.std.specs.List.{slice_get, list_all, range_with_len}
+use Rattle.std.specs.Option.{unwrap_or, option_eq}
+use Rattle.std.proofs.lemmas.List.Folds.{fold-map, list_all-map}
+use Rattle.std.proofs.lemmas.Bool.{and_right}
+use Rattle.rules.specs.Rules.{alike, name_at}
+use Rattle.names.specs.Names.{mixed, mixed_in, hashed}
 
-pub length_asked : (ns : List (List ℕ)) (n : ℕ) → length_or_none (slice_get (map length ns) n) ≡ length (name_at ns n)
+pub length_asked : (ns : List (List ℕ)) (n : ℕ) → unwrap_or (slice_get (map length ns) n) 0 ≡ length (name_at ns n)
 length_asked [] n = refl
 length_asked (x ∷ xs) zero = refl
 length_asked (x ∷ xs) (suc n) = length_asked xs n
 
-pub hash_more : (bs : List ℕ) (i : ℕ) → i < length bs → mixed_in (hashed (take i bs)) (slice_get bs i) ≡ hashed (take (i + 1) bs)
+range_up : (a b n : ℕ) → b ≡ suc a → range_with_len b n ≡ map suc (range_with_len a n)
+range_up a b zero e = refl
+range_up a b (suc n) e = ap (λ k. k ∷ range_with_len (b + 1) n) e ∙ ap (λ l. suc a ∷ l) (range_up (a + 1) (b + 1) n (omega (arith, e)))
+
+hash_from : (h : ℕ) (bs : List ℕ) → fold (λ a i. mixed_in a (slice_get bs i)) h (range_with_len 0 (length bs)) ≡ fold mixed h bs
+hash_from h [] = refl
+hash_from h (b ∷ bs) =
+    let f : ℕ → ℕ → ℕ = λ a i. mixed_in a (slice_get (b ∷ bs) i) in
+    ap (fold f (mixed h b)) (range_up 0 1 (length bs) (omega arith)) ∙ fold-map f suc (mixed h b) (range_with_len 0 (length bs)) ∙ hash_from (mixed h b) bs
+
+-- a name's hash, byte by byte
+pub hash_by_bytes : (bs : List ℕ) → fold (λ h i. mixed_in h (slice_get bs i)) 2166136261 (range_with_len 0 (length bs)) ≡ hashed bs
 unfolding hashed
-hash_more bs i l = ap (mixed_in (hashed (take i bs))) (slice_get-get_or bs i 0 l) ∙ sym (fold_more mixed 2166136261 bs i 0 l)
+hash_by_bytes bs = hash_from 2166136261 bs
 
-some_same : (x y : ℕ) → Some x ≡ Some y → x ≡ y
-some_same x y e = cc
+-- names of one length, byte by byte
+pub alike_by_bytes : (xs ys : List ℕ) → length xs ≡ length ys → list_all (λ i. option_eq eqb (slice_get xs i) (slice_get ys i)) (range_with_len 0 (length xs)) ≡ alike xs ys
+alike_by_bytes [] [] e = refl
+alike_by_bytes [] (y ∷ ys) e = absurd (omega (arith, e))
+alike_by_bytes (x ∷ xs) [] e = absurd (omega (arith, e))
+alike_by_bytes (x ∷ xs) (y ∷ ys) e =
+    let p : ℕ → Bool = λ i. option_eq eqb (slice_get (x ∷ xs) i) (slice_get (y ∷ ys) i) in
+    ap (λ b. eqb x y && b)
+    (ap (list_all p) (range_up 0 1 (length xs) (omega arith)) ∙ list_all-map p suc (range_with_len 0 (length xs)) ∙ alike_by_bytes xs ys (omega (arith, e)))
 
--- lists of one length with the same entries
-pub same_by_entries : (xs ys : List ℕ) → length xs ≡ length ys → ((k : ℕ) → k < length xs → slice_get xs k ≡ slice_get ys k) → xs ≡ ys
-same_by_entries xs ys e h =
-    same_lists xs ys e (λ k d l. some_same (get_or xs k d) (get_or ys k d) (sym (slice_get-get_or xs k d l) ∙ h k l ∙ slice_get-get_or ys k d (omega arith)))
+pub alike_lengths : (xs ys : List ℕ) → length xs ≢ length ys → alike xs ys ≡ false
+alike_lengths [] [] e = absurd (e refl)
+alike_lengths [] (y ∷ ys) e = refl
+alike_lengths (x ∷ xs) [] e = refl
+alike_lengths (x ∷ xs) (y ∷ ys) e = and_right (eqb x y) (alike xs ys) (alike_lengths xs ys (λ q. e (ap suc q)))

@@ -1,126 +1,245 @@
 -- The steps of looking for a name in the table.
-use Rattle.std.proofs.Common.{◌≡◌, ℕ, zero, suc, ◌+◌, ◌-◌, ◌%◌, ◌<◌, ◌≤◌, Bool, true, false, cond, not, eqb, ◌≢◌, ◌⊎◌, List, [], ◌∷◌, length, get_or, set, replicate, sym, refl, ap, ◌∙◌, subst, inl, inr, ⊎_elim, arith, length-set}
-use lib.ListN.{length-replicate}
-use Rattle.std.proofs.lemmas.List.{get_or-set_same, get_or-set_other}
-use Rattle.std.proofs.lemmas.List.Sums.{sum_by-set, sum_by-cons}
-use Rattle.std.proofs.lemmas.Bool.{cases_eq, cases_order, ne_eqb}
+use Rattle.std.proofs.Common.{◌≡◌, ℕ, zero, suc, ◌+◌, ◌-◌, ◌%◌, ◌<◌, ◌≤◌, Bool, true, false, cond, if◌then◌else◌, is_none, ◌≢◌, ◌⊎◌, List, [], ◌∷◌, map, length, get_or, set, replicate, count_by, find, Some, None, Option, is_some, sym, refl, ap, ◌∙◌, subst, inl, inr, ⊎_elim, arith, length-set}
+use Rattle.std.specs.List.{range_with_len, slice_get, position_or_len}
+use Rattle.std.proofs.lemmas.List.{length-replicate}
+use Rattle.std.proofs.lemmas.List.Sums.{sum_by-set, sum_by-cons, passes_at_first, fails_before_first}
+use Rattle.std.proofs.lemmas.List.Folds.{find_at}
+use Rattle.std.proofs.lemmas.List.FromFn.{length-map-range_with_len, get_or-map-range_with_len}
+use Rattle.std.proofs.lemmas.Option.{slice_get_within, slice_get-get_or}
+use Rattle.std.proofs.lemmas.Bool.{cases_eq, cases_lt, cases_order}
+use Rattle.std.proofs.lemmas.Grind.{common_steps}
 use Rattle.rules.specs.Rules.{name_at}
-use Rattle.names.specs.Slots.{hashed, slot, used, Home, Passed, Free, Holds}
+use Rattle.names.specs.declared.Entry.{Entry}
+use Rattle.names.specs.Names.{NumberedName, hashed}
+use Rattle.names.specs.Slots.{Slots, at, slot, entry_of, matches, ends_search, last_slot, if_free, free_slot, written, with_name}
+use Rattle.names.proofs.Twins.{Twin, alike_same, same_alike}
 
-abbrev one : ℕ → ℕ
-one x = cond (not (eqb x 0)) 1 0
+abbrev pub numbered : List (List ℕ) → ℕ → NumberedName
+numbered ns n = record { names = ns; number = n }
 
-at_most : (b : Bool) → cond b 1 0 ≤ 1
-at_most true = omega arith
-at_most false = omega arith
+abbrev pub hash_at : List (List ℕ) → ℕ → ℕ
+hash_at ns n = hashed (name_at ns n)
 
-one_used : (x : ℕ) → 0 < x → one x ≡ 1
-one_used x h = ap (λ (b : Bool). cond (not b) 1 0) (ne_eqb x 0 (λ e. omega arith))
+abbrev pub used : Slots → ℕ
+used t = count_by is_some t
 
-all_used : (t : List ℕ) → ((s : ℕ) → s < length t → 0 < get_or t s 0) → length t ≤ used t
+-- name k can be found from its hash on
+abbrev pub Home : List (List ℕ) → Slots → ℕ → Type 0
+Home ns t k = (d : ℕ) × (at t (slot (hash_at ns k) d) ≡ Some (entry_of (numbered ns k))) × ((e : ℕ) → e < d → at t (slot (hash_at ns k) e) ≢ None)
+
+-- the search for name n passes the slots before d from its hash on
+abbrev pub Passed : List (List ℕ) → Slots → ℕ → ℕ → Type 0
+Passed ns t n d = (e : ℕ) → e < d → ends_search (numbered ns n) (at t (slot (hash_at ns n) e)) ≡ false
+
+-- s is the free slot where name n belongs
+abbrev pub Free : List (List ℕ) → Slots → ℕ → ℕ → Type 0
+Free ns t n s = (d : ℕ) × (s ≡ slot (hash_at ns n) d) × (at t s ≡ None) × Passed ns t n d
+
+-- the table holds the names below n and no other, beside their hashes
+pub record Holds (ns : List (List ℕ)) (t : Slots) (n : ℕ) : Type 0 where
+  pub long : length t ≡ 4096
+  pub low : (s : ℕ) (e : Entry) → at t s ≡ Some e → e.name < n
+  pub hash : (s : ℕ) (e : Entry) → at t s ≡ Some e → e.hash ≡ hash_at ns e.name
+  pub few : used t ≤ n
+  pub home : (k : ℕ) → k < n → Home ns t k
+
+abbrev one : Option Entry → ℕ
+one o = cond (is_some o) 1 0
+
+at_most : (o : Option Entry) → one o ≤ 1
+at_most o = grind (arith, common_steps)
+
+all_used : (t : Slots) → ((s : ℕ) → s < length t → at t s ≢ None) → length t ≤ used t
 all_used [] h = omega arith
-all_used (x ∷ t) h =
+all_used (None ∷ t) h = absurd (h 0 (omega arith) refl)
+all_used (Some e ∷ t) h =
     let r = all_used t (λ s l. h (suc s) (omega arith)) in
-    omega (arith, r, sum_by-cons one x t, one_used x (h 0 (omega arith)))
+    omega (arith, r, sum_by-cons one (Some e) t)
 
 -- the slots from any start on are all the slots
 onto : (h s : ℕ) → s < 4096 → (d : ℕ) × (d < 4096) × (slot h d ≡ s)
 onto h s l = ((s + (4096 - h % 4096)) % 4096, omega arith, omega arith)
 
+-- a search does not pass a free slot
+passes_none : (x : NumberedName) (o : Option Entry) → o ≡ None → ends_search x o ≡ false → ⊥
+passes_none x o q e = grind (arith, common_steps)
+
 -- a table with so few names has a free slot
-pub not_full : (ns : List (List ℕ)) (t hs : List ℕ) (i d : ℕ) → Holds ns t hs i → i ≤ 2048 → 4096 ≤ d → Passed ns t i d → ⊥
-not_full ns t hs i d o l e p =
-    let all : (s : ℕ) → s < length t → 0 < get_or t s 0 =
-    λ s m.
-    let w = onto (hashed (name_at ns i)) s (omega (arith, o.long)) in
-    let P : ℕ → Type 0 = λ z. 0 < get_or t z 0 in
-    subst P w.2 (p w.0 (omega (arith, w.1))).0 in
+not_full : (ns : List (List ℕ)) (t : Slots) (i d : ℕ) → Holds ns t i → i ≤ 2048 → 4096 ≤ d → Passed ns t i d → ⊥
+not_full ns t i d o l e p =
+    let all : (s : ℕ) → s < length t → at t s ≢ None =
+    λ s m q.
+    let w = onto (hash_at ns i) s (omega (arith, o.long)) in
+    passes_none (numbered ns i) (at t (slot (hash_at ns i) w.0)) (ap (at t) w.2 ∙ q) (p w.0 (omega (arith, w.1))) in
     omega (arith, all_used t all, o.few, o.long)
 
-after_set : (t : List ℕ) (v x u : ℕ) → v < length t → ((u ≡ v) × (get_or (set t v x) u 0 ≡ x)) ⊎ ((u ≢ v) × (get_or (set t v x) u 0 ≡ get_or t u 0))
+after_set : (t : Slots) (v : ℕ) (x : Option Entry) (u : ℕ) → v < length t → ((u ≡ v) × (at (set t v x) u ≡ x)) ⊎ ((u ≢ v) × (at (set t v x) u ≡ at t u))
 after_set t v x u h =
-    ⊎_elim
-    (λ e. inl (e, ap (λ (k : ℕ). get_or (set t v x) k 0) e ∙ get_or-set_same t v x 0 h))
-    (λ ne. inr (ne, get_or-set_other t v u x 0 ne))
-    (cases_eq u v)
+    grind (arith, common_steps)
 
-module _ (ns : List (List ℕ)) (t hs : List ℕ) (i s : ℕ) (o : Holds ns t hs i) (low : s < 4096) (f : Free ns t i s) where
+-- an entry of a name like name i matches it
+matching : (ns : List (List ℕ)) (k i : ℕ) (e : Entry) → e.name ≡ k → e.hash ≡ hash_at ns k → name_at ns k ≡ name_at ns i → matches (numbered ns i) e ≡ true
+matching ns k i e a b q =
+    grind (arith, common_steps, same_alike (name_at ns i) (name_at ns e.name))
+
+-- name i is written into its slot
+module _ (ns : List (List ℕ)) (t : Slots) (i s : ℕ) (o : Holds ns t i) (low : s < 4096) (f : Free ns t i s) where
+  abbrev new : Option Entry
+  new = Some (entry_of (numbered ns i))
+
+  abbrev after : Slots
+  after = set t s new
+
   fits : s < length t
   fits = omega (arith, o.long)
 
   -- a slot that is taken stays taken
-  stays : (u : ℕ) → 0 < get_or t u 0 → 0 < get_or (set t s (i + 1)) u 0
-  stays u h = ⊎_elim (λ a. omega (arith, a.1)) (λ b. omega (arith, b.1)) (after_set t s (i + 1) u fits)
+  stays : (u : ℕ) → at t u ≢ None → at after u ≢ None
+  stays u h q =
+      grind (arith, common_steps, fits)
 
-  kept : (h k : ℕ) → Home t h k → Home (set t s (i + 1)) h k
-  kept h k w = (
+  kept : (k : ℕ) → Home ns t k → Home ns after k
+  kept k w = (
     w.0,
-    ⊎_elim
-        (λ a. absurd (let e : get_or t (slot h w.0) 0 ≡ get_or t s 0 = ap (λ (z : ℕ). get_or t z 0) a.0 in omega (arith, e, w.1, f.2)))
-        (λ b. b.1 ∙ w.1)
-        (after_set t s (i + 1) (slot h w.0) fits),
-    λ e l. stays (slot h e) (w.2 e l),
+    grind (arith, common_steps, after_set t s new (slot (hash_at ns k) w.0) fits, w.1, f.2),
+    λ e l. stays (slot (hash_at ns k) e) (w.2 e l),
   )
 
-  mine : Home (set t s (i + 1)) (hashed (name_at ns i)) i
+  mine : Home ns after i
   mine = (
     f.0,
-    ap (λ (z : ℕ). get_or (set t s (i + 1)) z 0) (sym f.1) ∙ get_or-set_same t s (i + 1) 0 fits,
-    λ e l. stays (slot (hashed (name_at ns i)) e) (f.3 e l).0,
+    grind (arith, common_steps, f.1, fits),
+    λ e l. stays (slot (hash_at ns i) e) (grind (arith, common_steps, f.3 e l)),
   )
 
-  pub put : i < 2048 → Holds ns (set t s (i + 1)) (set hs i (hashed (name_at ns i))) (i + 1)
-  put inside =
+  put : Holds ns after (i + 1)
+  put =
       record {
-        long = length-set t s (i + 1) ∙ o.long;
-        row = length-set hs i (hashed (name_at ns i)) ∙ o.row;
-        low = λ u. ⊎_elim (λ a. omega (arith, a.1)) (λ b. omega (arith, b.1, o.low u)) (after_set t s (i + 1) u fits);
-        few = omega (arith, sum_by-set one t s (i + 1) 0 fits, at_most (not (eqb (i + 1) 0)), o.few);
+        long = length-set t s new ∙ o.long;
+        low = λ u e q. grind (arith, common_steps, after_set t s new u fits, o.low u e);
+        hash = λ u e q. grind (arith, common_steps, after_set t s new u fits, o.hash u e);
+        few = omega (arith, sum_by-set one t s new None fits, at_most new, o.few);
         home = λ k l.
             ⊎_elim
-            (λ e. let P : ℕ → Type 0 = λ z. Home (set t s (i + 1)) (hashed (name_at ns z)) z in subst P (sym e) mine)
-            (λ ne. kept (hashed (name_at ns k)) k (o.home k (omega arith)))
+            (λ e. let P : ℕ → Type 0 = λ z. Home ns after z in subst P (sym e) mine)
+            (λ ne. kept k (o.home k (omega arith)))
             (cases_eq k i);
-        hash = λ k l.
-            ⊎_elim
-            (λ a. a.1 ∙ ap (λ (z : ℕ). hashed (name_at ns z)) (sym a.0))
-            (λ b. b.1 ∙ o.hash k (omega (arith, b.0)))
-            (after_set hs i (hashed (name_at ns i)) k (omega (arith, o.row)));
       }
 
   -- no earlier name is like name i
-  pub other : (k : ℕ) → k < i → name_at ns k ≡ name_at ns i → ⊥
+  other : (k : ℕ) → k < i → name_at ns k ≡ name_at ns i → ⊥
   other k l e =
-      let P : List ℕ → Type 0 = λ b. Home t (hashed b) k in
-      let w = subst P e (o.home k l) in
-      let h = hashed (name_at ns i) in
+      let w = o.home k l in
+      let m = matching ns k i (entry_of (numbered ns k)) refl refl e in
       ⊎_elim
-      (λ q. let a : get_or t (slot h w.0) 0 ≡ get_or t s 0 = ap (λ (z : ℕ). get_or t (slot h z) 0) q ∙ ap (λ (z : ℕ). get_or t z 0) (sym f.1) in omega (arith, a, w.1, f.2))
-      (λ r.
-      ⊎_elim
-      (λ a.
-      let b : get_or t (slot h w.0) 0 - 1 ≡ k = omega (arith, w.1) in
-      (f.3 w.0 a).1 (ap (name_at ns) b ∙ e))
-      (λ a. let b : get_or t (slot h f.0) 0 ≡ get_or t s 0 = ap (λ (z : ℕ). get_or t z 0) (sym f.1) in omega (arith, b, w.2 f.0 a, f.2))
-      r)
+      (λ q. grind (arith, common_steps, w.1, f.1, f.2, e))
+      (⊎_elim (λ a. grind (arith, common_steps, m, w.1, f.3 w.0 a, e)) (λ a. grind (arith, common_steps, w.2 f.0 a, f.1, f.2, e)))
       (cases_order w.0 f.0)
 
-get_or_zeros : (n s : ℕ) → ◌≡◌ {A = ℕ} (get_or (replicate n 0) s 0) 0
-get_or_zeros zero s = refl
-get_or_zeros (suc n) zero = refl
-get_or_zeros (suc n) (suc s) = get_or_zeros n s
+none_at : (n s : ℕ) → at (replicate n None) s ≡ None
+none_at zero s = refl
+none_at (suc n) zero = refl
+none_at (suc n) (suc s) = none_at n s
 
-used_zeros : (n : ℕ) → used (replicate n 0) ≡ 0
-used_zeros zero = refl
-used_zeros (suc n) = sum_by-cons one 0 (replicate n 0) ∙ omega (arith, used_zeros n)
+used_none : (n : ℕ) → used (replicate n None) ≡ 0
+used_none zero = refl
+used_none (suc n) = sum_by-cons one None (replicate n None) ∙ omega (arith, used_none n)
 
-pub empty : (ns : List (List ℕ)) → Holds ns (replicate 4096 0) (replicate 2048 0) 0
+pub empty : (ns : List (List ℕ)) → Holds ns (replicate 4096 None) 0
 empty ns =
     record {
-      long = length-replicate {A = ℕ} 4096 0;
-      row = length-replicate {A = ℕ} 2048 0;
-      low = λ s. omega (arith, get_or_zeros 4096 s);
-      few = omega (arith, used_zeros 4096);
+      long = length-replicate {A = Option Entry} 4096 None;
+      low = λ s e q. absurd (cc (none_at 4096 s));
+      hash = λ s e q. absurd (cc (none_at 4096 s));
+      few = omega (arith, used_none 4096);
       home = λ k l. absurd (omega arith);
-      hash = λ k l. absurd (omega arith);
     }
+
+-- where a search ends
+
+free_end : (t : Slots) (l : Option ℕ) (s : ℕ) → if_free t l ≡ Some s → (l ≡ Some s) × (at t s ≡ None)
+free_end t l s e = grind (arith, common_steps)
+
+by_taken : (u : ℕ) (o : Option Entry) → (if is_none o then Some u else None) ≡ None → (e : Entry) × (o ≡ Some e)
+by_taken u None q = cc
+by_taken u (Some e) q = (e, refl)
+
+taken_end : (t : Slots) (l : Option ℕ) → if_free t l ≡ None → (l ≡ None) ⊎ ((s : ℕ) × (e : Entry) × (l ≡ Some s) × (at t s ≡ Some e))
+taken_end t None q = inl refl
+taken_end t (Some u) q = let w = by_taken u (at t u) q in inr (u, w.0, refl, w.1)
+
+module _ (ns : List (List ℕ)) (t : Slots) (i : ℕ) where
+  abbrev ends : ℕ → Bool
+  ends s = ends_search (numbered ns i) (at t s)
+
+  stopped : (n s : ℕ) → find ends (map (slot (hash_at ns i)) (range_with_len 0 n)) ≡ Some s → (ends s ≡ true) × ((d : ℕ) × (s ≡ slot (hash_at ns i) d) × Passed ns t i d)
+  stopped n s e =
+      let xs = map (slot (hash_at ns i)) (range_with_len 0 n) in
+      let d = position_or_len ends xs in
+      let r : slice_get xs d ≡ Some s = sym (find_at ends xs) ∙ e in
+      let l : d < length xs = slice_get_within xs d s r in
+      let len = length-map-range_with_len (slot (hash_at ns i)) 0 n in
+      let s_is : get_or xs d s ≡ s = cc (slice_get-get_or xs d s l) in (
+        ap ends (sym s_is) ∙ passes_at_first ends xs s l,
+        (
+          d,
+          sym s_is ∙ get_or-map-range_with_len (slot (hash_at ns i)) 0 n d d s (omega arith) (omega arith),
+          λ u m. ap ends (sym (get_or-map-range_with_len (slot (hash_at ns i)) 0 n u u s (omega arith) (omega arith))) ∙ fails_before_first ends xs u s m,
+        ),
+      )
+
+  never : (n : ℕ) → find ends (map (slot (hash_at ns i)) (range_with_len 0 n)) ≡ None → Passed ns t i n
+  never n e u m =
+      let xs = map (slot (hash_at ns i)) (range_with_len 0 n) in
+      let d = position_or_len ends xs in
+      let len = length-map-range_with_len (slot (hash_at ns i)) 0 n in
+      let past : (d < n) → ⊥ = λ l. cc (sym e ∙ find_at ends xs ∙ slice_get-get_or xs d 0 (omega arith)) in
+      ap ends (sym (get_or-map-range_with_len (slot (hash_at ns i)) 0 n u u 0 m (omega arith))) ∙ fails_before_first ends xs u 0 (⊎_elim (λ l. absurd (past l)) (λ l. omega arith) (cases_lt d n))
+
+  last_stopped : (s : ℕ) → last_slot t (numbered ns i) ≡ Some s → (ends s ≡ true) × ((d : ℕ) × (s ≡ slot (hash_at ns i) d) × Passed ns t i d)
+  unfolding last_slot
+  last_stopped s e = stopped 4096 s e
+
+  last_never : last_slot t (numbered ns i) ≡ None → Passed ns t i 4096
+  unfolding last_slot
+  last_never e = never 4096 e
+
+  is_free : (s : ℕ) → free_slot t (numbered ns i) ≡ Some s → Free ns t i s
+  unfolding free_slot
+  is_free s e =
+      let c = free_end t (last_slot t (numbered ns i)) s e in
+      let w = last_stopped s c.0 in
+      (w.1.0, w.1.1, c.1, w.1.2)
+
+  taken_twin : Holds ns t i → (s : ℕ) (e : Entry) → at t s ≡ Some e → ends s ≡ true → Twin ns i
+  taken_twin o s e q r =
+      (e.name, o.low s e q, grind (arith, common_steps, alike_same (name_at ns i) (name_at ns e.name)))
+
+  has_twin : Holds ns t i → i ≤ 2048 → free_slot t (numbered ns i) ≡ None → Twin ns i
+  unfolding free_slot
+  has_twin o l e =
+      ⊎_elim
+      (λ q. absurd (not_full ns t i 4096 o l (omega arith) (last_never q)))
+      (λ w. taken_twin o w.0 w.1 w.3 (last_stopped w.0 w.2).0)
+      (taken_end t (last_slot t (numbered ns i)) e)
+
+  twin_when : Holds ns t i → i ≤ 2048 → (l : Option ℕ) → free_slot t (numbered ns i) ≡ l → false ≡ is_some l → Twin ns i
+  twin_when o l None q e = has_twin o l q
+  twin_when o l (Some s) q e = cc
+
+  added_when : Holds ns t i → (l : Option ℕ) → free_slot t (numbered ns i) ≡ l → true ≡ is_some l → Holds ns (written t (numbered ns i) l) (i + 1) × ((k : ℕ) → k < i → name_at ns k ≡ name_at ns i → ⊥)
+  added_when o None q e = absurd (cc)
+  added_when o (Some s) q e =
+      let f = is_free s q in
+      let low : s < 4096 = omega (arith, f.1) in
+      (put ns t i s o low f, other ns t i s o low f)
+
+  -- a name that is not added is like an earlier one
+  pub not_added : Holds ns t i → i ≤ 2048 → (x : NumberedName) → x ≡ numbered ns i → false ≡ is_some (free_slot t x) → Twin ns i
+  not_added o l x q e = twin_when o l (free_slot t (numbered ns i)) refl (e ∙ ap (λ z. is_some (free_slot t z)) q)
+
+  -- one that is added is like no earlier one, and the table holds it
+  pub added : Holds ns t i → (x : NumberedName) → x ≡ numbered ns i → true ≡ is_some (free_slot t x) → Holds ns (with_name t x) (i + 1) × ((k : ℕ) → k < i → name_at ns k ≡ name_at ns i → ⊥)
+  added o x q e =
+      let w = added_when o (free_slot t (numbered ns i)) refl (e ∙ ap (λ z. is_some (free_slot t z)) q) in
+      (subst (λ (z : NumberedName). Holds ns (with_name t z) (i + 1)) (sym q) w.0, w.1)

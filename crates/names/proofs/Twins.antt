@@ -3,12 +3,15 @@ use Rattle.std.proofs.Common.{◌≡◌, ℕ, zero, suc, ◌<◌, Bool, true, fa
 use Rattle.std.proofs.lemmas.Bool.{eqb-true, eq-eqb, and_parts, and_from, and_left, and_right, or_left, or_right, or_from, cases_eq, cases_Bool}
 use Rattle.rules.specs.Lists.{any_below}
 use Rattle.rules.specs.Rules.{alike, name_at, repeated, length_fits, name_stands}
-use Rattle.names.specs.Slots.{Twin}
+
+-- an earlier name is like name n
+abbrev pub Twin : List (List ℕ) → ℕ → Type 0
+Twin ns n = (k : ℕ) × (k < n) × (name_at ns k ≡ name_at ns n)
 
 pub alike_same : (xs ys : List ℕ) → alike xs ys ≡ true → xs ≡ ys
 alike_same [] [] e = refl
-alike_same [] (y ∷ ys) e = let z : ◌≡◌ {A = ℕ} 0 1 = cc in absurd (omega arith)
-alike_same (x ∷ xs) [] e = let z : ◌≡◌ {A = ℕ} 0 1 = cc in absurd (omega arith)
+alike_same [] (y ∷ ys) e = cc
+alike_same (x ∷ xs) [] e = cc
 alike_same (x ∷ xs) (y ∷ ys) e =
     let p = and_parts (eqb x y) (alike xs ys) e in
     ap (λ (a : ℕ). a ∷ xs) (eqb-true x y p.0) ∙ ap (λ l. y ∷ l) (alike_same xs ys p.1)

@@ -1,55 +1,50 @@
--- Names in a table of 4,096 slots. A slot is 0, or a name's number and 1; a name
--- stands at the first free slot from its hash on.
-use Rattle.std.specs.Prelude.{◌≡◌, ℕ, ◌+◌, ◌-◌, ◌*◌, ◌%◌, ◌<◌, ◌≤◌, not, List, length, Some, None, fold, count_by, Option, ◌==◌, ◌≢◌, bit_xor, slice_index}
-use Rattle.rules.specs.Rules.{name_at}
+-- Names in a table of 4,096 slots: each stands at the first slot from its hash on
+-- that was free.
+use Rattle.std.specs.Prelude.{ℕ, ◌+◌, ◌%◌, ◌==◌, ◌&&◌, Bool, true, List, map, Some, None, Option, find, is_none, slice_index_or, slice_set, if◌then◌else◌}
+use Rattle.std.specs.List.{range_with_len}
+use Rattle.rules.specs.Rules.{alike, name_at}
+use Rattle.names.specs.declared.Entry.{Entry}
+use Rattle.names.specs.Names.{NumberedName, bytes_of, hashed}
 
--- one byte of the FNV-1a hash
-abbrev pub mixed : ℕ → ℕ → ℕ
-mixed h b = (bit_xor h b * 16777619) % 4294967296
+abbrev pub Slots : Type 0
+Slots = List (Option Entry)
 
-abbrev pub mixed_in : ℕ → Option ℕ → ℕ
-mixed_in h None = h
-mixed_in h (Some b) = mixed h b
-
--- a name's hash; that it is a function of the bytes is all that is used of it
-unfoldable pub hashed : List ℕ → ℕ
-hashed bs = fold mixed 2166136261 bs
-
--- a length that may be absent
-abbrev pub length_or_none : Option ℕ → ℕ
-length_or_none None = 0
-length_or_none (Some n) = n
+-- what slot s holds
+abbrev pub at : Slots → ℕ → Option Entry
+at t s = slice_index_or t s None
 
 -- the d-th slot from h on
 abbrev pub slot : ℕ → ℕ → ℕ
 slot h d = (h + d) % 4096
 
-abbrev pub used : List ℕ → ℕ
-used t = count_by (λ x. not (x == 0)) t
+abbrev pub entry_of : NumberedName → Entry
+entry_of x = record { name = x.number; hash = hashed (bytes_of x) }
 
--- name k can be found from h on
-abbrev pub Home : List ℕ → ℕ → ℕ → Type 0
-Home t h k = (d : ℕ) × (slice_index t (slot h d) ≡ k + 1) × ((e : ℕ) → e < d → 0 < slice_index t (slot h e))
+-- the name of the entry has the same hash, and is like name x
+abbrev pub matches : NumberedName → Entry → Bool
+matches x e = e.hash == hashed (bytes_of x) && alike (bytes_of x) (name_at x.names e.name)
 
--- the slots before d from name n's hash on hold other names
-abbrev pub Passed : List (List ℕ) → List ℕ → ℕ → ℕ → Type 0
-Passed ns t n d =
-    (e : ℕ) → e < d
-    → (0 < slice_index t (slot (hashed (name_at ns n)) e)) × (name_at ns (slice_index t (slot (hashed (name_at ns n)) e) - 1) ≢ name_at ns n)
+-- the search for name x ends at a free slot, or at an entry that matches
+abbrev pub ends_search : NumberedName → Option Entry → Bool
+ends_search x None = true
+ends_search x (Some e) = matches x e
 
--- s is the free slot where name n belongs
-abbrev pub Free : List (List ℕ) → List ℕ → ℕ → ℕ → Type 0
-Free ns t n s = (d : ℕ) × (s ≡ slot (hashed (name_at ns n)) d) × (slice_index t s ≡ 0) × Passed ns t n d
+-- the slot at which that search ends, from the hash on
+unfoldable pub last_slot : Slots → NumberedName → Option ℕ
+last_slot t x = find (λ s. ends_search x (at t s)) (map (slot (hashed (bytes_of x))) (range_with_len 0 4096))
 
--- an earlier name is like name n
-abbrev pub Twin : List (List ℕ) → ℕ → Type 0
-Twin ns n = (k : ℕ) × (k < n) × (name_at ns k ≡ name_at ns n)
+abbrev pub if_free : Slots → Option ℕ → Option ℕ
+if_free t None = None
+if_free t (Some s) = if is_none (at t s) then Some s else None
 
--- the table holds the names below n and no other, beside their hashes
-pub record Holds (ns : List (List ℕ)) (t hs : List ℕ) (n : ℕ) : Type 0 where
-  pub long : length t ≡ 4096
-  pub row : length hs ≡ 2048
-  pub low : (s : ℕ) → slice_index t s ≤ n
-  pub few : used t ≤ n
-  pub home : (k : ℕ) → k < n → Home t (hashed (name_at ns k)) k
-  pub hash : (k : ℕ) → k < n → slice_index hs k ≡ hashed (name_at ns k)
+-- that slot, if it is free
+unfoldable pub free_slot : Slots → NumberedName → Option ℕ
+free_slot t x = if_free t (last_slot t x)
+
+abbrev pub written : Slots → NumberedName → Option ℕ → Slots
+written t x None = t
+written t x (Some s) = slice_set t s (Some (entry_of x))
+
+-- the slots with name x, if none like it stands there
+abbrev pub with_name : Slots → NumberedName → Slots
+with_name t x = written t x (free_slot t x)

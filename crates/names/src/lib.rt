@@ -3,13 +3,16 @@
 // equal hashes are compared byte by byte.
 #![tactic(auto)]
 
-ghost use Rattle.std.specs.Prelude.{◌≡◌, ℕ, ◌+◌, ◌<◌, ◌≤◌, length, Decides, MatchOption};
-ghost use Rattle.rules.specs.Rules.{name_at, length_fits};
+ghost use Rattle.std.specs.Prelude.{◌≡◌, ℕ, ◌<◌, ◌≤◌, nat_eq, length, Some, None, IfSome, is_some, replicate};
+ghost use Rattle.std.specs.List.{slice_get};
+ghost use Rattle.std.specs.Option.{option_eq};
+ghost use Rattle.rules.specs.Rules.{name_at, length_fits, alike};
 ghost use Rattle.rules.specs.Admission.{name_breach};
-ghost use Rattle.names.specs.Slots.{mixed_in, hashed, length_or_none, Holds, Free, Twin};
+ghost use Rattle.names.specs.Names.{NumberedName, bytes_of, mixed_in, hashed};
+ghost use Rattle.names.specs.Slots.{at, entry_of, slot, matches, ends_search, last_slot, free_slot, with_name};
 
 use component::Component;
-use rules::records::MAX_NAMES;
+use std::marker::Model;
 
 const SLOTS: usize = 4096;
 
@@ -23,74 +26,22 @@ const HASH_PRIME: u32 = 16777619;
 fn mix(hash: u32, byte: Option<u8>) -> u32
     ensures { result ≡ mixed_in hash byte }
 {
-    match byte {
-        Some(byte) => (hash ^ byte as u32).wrapping_mul(HASH_PRIME),
-        None => hash,
-    }
-}
-
-// The hash of name `n`.
-fn hash_name<C: Component>(component: &C, n: usize, len: usize) -> u32
-    requires { len ≡ length (name_at (C.Component.meaning component.now).names n) }
-    ensures { result ≡ hashed (name_at (C.Component.meaning component.now).names n) }
-{
-    let mut hash = HASH_START;
-    for i in 0..len {
-        hash = mix(hash, component.name_byte(n, i));
-    }
-    hash
-}
-
-fn same_byte(a: Option<u8>, b: Option<u8>) -> bool
-    ensures { Decides result (a ≡ b) }
-{
-    match (a, b) {
-        (Some(a), Some(b)) => a == b,
-        (None, None) => true,
-        _ => false,
-    }
-}
-
-// Names `j` and `n` of the same length are alike.
-fn same_bytes<C: Component>(component: &C, j: usize, n: usize, len: usize) -> bool
-    requires one { len ≡ length (name_at (C.Component.meaning component.now).names j) }
-    requires other { len ≡ length (name_at (C.Component.meaning component.now).names n) }
-    ensures { Decides result (name_at (C.Component.meaning component.now).names j ≡ name_at (C.Component.meaning component.now).names n) }
-{
-    for i in 0..len {
-        if !same_byte(component.name_byte(j, i), component.name_byte(n, i)) {
-            return false;
-        }
-    }
-    true
-}
-
-fn length_or_none(len: Option<usize>) -> usize
-    ensures { result ≡ length_or_none len }
-{
-    match len {
-        Some(len) => len,
-        None => 0,
-    }
+    byte.map_or(hash, |byte| (hash ^ byte as u32).wrapping_mul(HASH_PRIME))
 }
 
 // The length of name `n`.
 fn length_of<C: Component>(component: &C, n: usize) -> usize
     ensures { result ≡ length (name_at (C.Component.meaning component.now).names n) }
 {
-    length_or_none(component.name_length(n))
+    component.name_length(n).unwrap_or(0)
 }
 
-// Name `j` is like name `n`, which has this length.
-fn is_like<C: Component>(component: &C, j: usize, n: usize, len: usize) -> bool
+// The hash of name `n`.
+fn hash_of<C: Component>(component: &C, n: usize, len: usize) -> u32
     requires { len ≡ length (name_at (C.Component.meaning component.now).names n) }
-    ensures { Decides result (name_at (C.Component.meaning component.now).names j ≡ name_at (C.Component.meaning component.now).names n) }
+    ensures { result ≡ hashed (name_at (C.Component.meaning component.now).names n) }
 {
-    if length_of(component, j) == len {
-        same_bytes(component, j, n, len)
-    } else {
-        false
-    }
+    (0..len).fold(HASH_START, |hash, i| mix(hash, component.name_byte(n, i)))
 }
 
 // A name has 1 to 64 bytes.
@@ -100,32 +51,161 @@ fn length_fits(len: usize) -> bool
     0 < len && len <= MAX_LENGTH
 }
 
-// The free slot where name `n` belongs, or none if an earlier name is like it.
-fn free_slot<C: Component>(
-    component: &C,
-    slots: &[u16],
-    hashes: &[u32],
+// A name in a slot, by its number, with its hash.
+#[derive(Clone, Copy)]
+struct Entry {
+    name: u16,
+    hash: u32,
+}
+
+// A name of a fitting length, by its number.
+#[derive(Drop)]
+struct Name<'a, C: Component> {
+    component: &'a C,
     n: usize,
     len: usize,
     hash: u32,
-) -> Option<usize>
-    requires few { n < 2048 }
-    requires holds { Holds (C.Component.meaning component.now).names slots.now hashes.now n }
-    requires len { len ≡ length (name_at (C.Component.meaning component.now).names n) }
-    requires hash { hash ≡ hashed (name_at (C.Component.meaning component.now).names n) }
-    ensures { MatchOption result (Twin (C.Component.meaning component.now).names n) (λ s. (s < 4096) × Free (C.Component.meaning component.now).names slots.now n s) }
-{
-    for d in 0..SLOTS {
-        let s = (hash as usize + d) % SLOTS;
-        let entry = slots[s] as usize;
-        if entry == 0 {
-            return Some(s);
-        }
-        if hashes[entry - 1] == hash && is_like(component, entry - 1, n, len) {
+}
+
+impl<'a, C: Component> Model for Name<'a, C> {
+    ghost Value = { NumberedName };
+
+    ghost view = { λ s. record { names = (C.Component.meaning s.component.now).names; number = s.n } };
+
+    ghost invariant = { λ s. record {
+      few : s.n < 2048;
+      len : s.len ≡ length (name_at (C.Component.meaning s.component.now).names s.n);
+      hash : s.hash ≡ hashed (name_at (C.Component.meaning s.component.now).names s.n);
+    } };
+}
+
+impl<'a, C: Component> Name<'a, C> {
+    fn new(component: &'a C, n: usize) -> Option<Self>
+        requires { n < 2048 }
+        ensures fits { is_some result ≡ length_fits (length (name_at (C.Component.meaning component.now).names n)) }
+        ensures name { IfSome result (λ x. x ≡ record { names = (C.Component.meaning component.now).names; number = n }) }
+    {
+        let len = length_of(component, n);
+        if !length_fits(len) {
             return None;
         }
+        let hash = hash_of(component, n, len);
+        Some(Name {
+            component,
+            n,
+            len,
+            hash,
+        })
     }
-    unreachable()
+
+    // The name as an entry of a table.
+    fn entry(&self) -> Entry
+        ensures { result ≡ entry_of self.now }
+    {
+        Entry {
+            name: self.n as u16,
+            hash: self.hash,
+        }
+    }
+
+    // Byte `i` of this name and of name `k` is the same, or both have none.
+    fn same_byte(&self, k: usize, i: usize) -> bool
+        ensures { result ≡ option_eq nat_eq (slice_get (bytes_of self.now) i) (slice_get (name_at self.now.names k) i) }
+    {
+        self.component.name_byte(self.n, i) == self.component.name_byte(k, i)
+    }
+
+    // Name `k`, of the same length, is like this one.
+    fn same_bytes(&self, k: usize) -> bool
+        requires { length (bytes_of self.now) ≡ length (name_at self.now.names k) }
+        ensures { result ≡ alike (bytes_of self.now) (name_at self.now.names k) }
+    {
+        (0..self.len).all(|i| self.same_byte(k, i))
+    }
+
+    // Name `k` is like this one.
+    #[tactic(auto, using(crate::proofs::Bytes::alike_lengths))]
+    fn is_like(&self, k: usize) -> bool
+        ensures { result ≡ alike (bytes_of self.now) (name_at self.now.names k) }
+    {
+        self.len == length_of(self.component, k) && self.same_bytes(k)
+    }
+
+    // The name of the entry has the same hash, and is like this one.
+    fn matches(&self, entry: Entry) -> bool
+        ensures { result ≡ matches self.now entry }
+    {
+        entry.hash == self.hash && self.is_like(entry.name as usize)
+    }
+
+    // The search for the name ends at a free slot, or at an entry that matches.
+    fn ends_search(&self, slot: Option<Entry>) -> bool
+        ensures { result ≡ ends_search self.now slot }
+    {
+        // A `match`: with `is_none_or` and a closure the proof did not close.
+        match slot {
+            Some(entry) => self.matches(entry),
+            None => true,
+        }
+    }
+
+    // Slot `d` of that search: the slots follow each other from the hash on.
+    fn slot(&self, d: usize) -> usize
+        requires { d < 4096 }
+        ensures { result ≡ slot (hashed (bytes_of self.now)) d }
+    {
+        (self.hash as usize + d) % SLOTS
+    }
+}
+
+// Names of a component in slots: each stands at the first slot from its hash on that
+// was free.
+#[derive(Drop)]
+struct NameTable {
+    slots: [Option<Entry>; SLOTS],
+}
+
+impl NameTable {
+    fn new() -> Self
+        ensures { result.slots ≡ replicate 4096 None }
+    {
+        NameTable {
+            slots: [None; SLOTS],
+        }
+    }
+
+    // The slot at which the search for a name ends.
+    #[tactic(auto, unfolding(crate::specs::Slots::last_slot))]
+    fn last_slot<C: Component>(&self, name: &Name<C>) -> Option<usize>
+        ensures inside { IfSome result (λ s. s < 4096) }
+        ensures slot { result ≡ last_slot self.now.slots name.now }
+    {
+        (0..SLOTS)
+            .map(move |d| name.slot(d))
+            .find(move |s| name.ends_search(self.slots[*s]))
+    }
+
+    // The slot where the name belongs, or none if a name like it is in the table.
+    #[tactic(auto, unfolding(crate::specs::Slots::free_slot))]
+    fn free_slot<C: Component>(&self, name: &Name<C>) -> Option<usize>
+        ensures inside { IfSome result (λ s. s < 4096) }
+        ensures slot { result ≡ free_slot self.now.slots name.now }
+    {
+        let s = self.last_slot(name)?;
+        self.slots[s].is_none().then_some(s)
+    }
+
+    // Adds the name, if none like it is in the table.
+    fn insert<C: Component>(&mut self, name: &Name<C>) -> bool
+        ensures new { result ≡ is_some (free_slot self.old.slots name.now) }
+        ensures slots { self.new.slots ≡ with_name self.old.slots name.now }
+    {
+        let Some(s) = self.free_slot(name) else {
+            return false;
+        };
+        self.slots[s] = Some(name.entry());
+        true
+    }
 }
 
 // The first name that has not 1 to 64 bytes or is like an earlier one.
@@ -134,19 +214,16 @@ pub fn first_failing_name<C: Component>(component: &C, names: usize) -> Option<u
     requires few { names ≤ 2048 }
     ensures { result ≡ name_breach (C.Component.meaning component.now) }
 {
-    let mut slots = [0u16; SLOTS];
-    let mut hashes = [0u32; MAX_NAMES];
+    let mut table = NameTable::new();
+    // A `for`, since each step changes the table: a closure of `find` that did so would
+    // prove nothing of it.
     for n in 0..names {
-        let len = length_of(component, n);
-        if !length_fits(len) {
-            return Some(n);
-        }
-        let hash = hash_name(component, n, len);
-        let Some(s) = free_slot(component, &slots, &hashes, n, len, hash) else {
+        let Some(name) = Name::new(component, n) else {
             return Some(n);
         };
-        slots[s] = (n + 1) as u16;
-        hashes[n] = hash;
+        if !table.insert(&name) {
+            return Some(n);
+        }
     }
     None
 }

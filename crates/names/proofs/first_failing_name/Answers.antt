@@ -1,47 +1,40 @@
-use Rattle.std.proofs.Common.{◌≡◌, ℕ, ◌+◌, ◌<◌, length, set, sym, refl, ap, ◌∙◌, subst, arith}
+use Rattle.std.proofs.Common.{◌≡◌, ◌+◌, length, sym, refl, ap, ◌∙◌, subst, arith}
 use Rattle.rules.specs.Lists.{first_failing}
-use Rattle.rules.specs.Rules.{name_stands, length_fits}
+use Rattle.rules.specs.Rules.{name_stands}
 use Rattle.rules.specs.Admission.{name_breach}
 use Rattle.rules.proofs.Failing.{none_more, first_here}
-use Rattle.names.specs.Slots.{Holds}
-use Rattle.names.proofs.Probes.{put, other, empty}
+use Rattle.names.specs.Slots.{Slots}
+use Rattle.names.proofs.Probes.{Holds, empty, added, not_added}
 use Rattle.names.proofs.Twins.{stands_apart, fails_twin, fails_length}
 use Rattle.names.proofs.first_failing_name.Goals as goal
 
 pub loop-n-init : goal.loop-n-init
-loop-n-init g c = (empty (g.C.Component.meaning c.args.component.now).names, refl)
-
-pub returns-then-not-length_fits : goal.returns-then-not-length_fits
-unfolding name_breach
-returns-then-not-length_fits g c =
+loop-n-init g c =
     let ns = (g.C.Component.meaning c.args.component.now).names in
-    let n = c.loop-n.n in
-    let fails = fails_length ns n (ap length_fits (sym c.length_of-len.ensures) ∙ sym c.if-not-length_fits.ensures) in
-    sym (first_here (name_stands ns) (length ns) n c.loop-n.invariant.1 fails (omega arith))
+    (subst (λ (t : Slots). Holds ns t 0) (sym c.new-table.ensures) (empty ns), refl)
 
 pub returns-in_default : goal.returns-in_default
 unfolding name_breach
 returns-in_default g c =
     let ns = (g.C.Component.meaning c.args.component.now).names in
     let n = c.loop-n.n in
-    sym (first_here (name_stands ns) (length ns) n c.loop-n.invariant.1 (fails_twin ns n c.in_default.ensures) (omega arith))
+    sym (first_here (name_stands ns) (length ns) n c.loop-n.invariant.1 (fails_length ns n (sym c.in_default.ensures.fits)) (omega arith))
+
+pub returns-then-not-insert : goal.returns-then-not-insert
+unfolding name_breach
+returns-then-not-insert g c =
+    let ns = (g.C.Component.meaning c.args.component.now).names in
+    let n = c.loop-n.n in
+    let twin = not_added ns c.loop-n.table.slots n c.loop-n.invariant.0 (omega arith) c.in-Some.name c.in-Some.ensures.name (sym c.if-not-insert.true ∙ c.insert.ensures.new) in
+    sym (first_here (name_stands ns) (length ns) n c.loop-n.invariant.1 (fails_twin ns n twin) (omega arith))
 
 pub loop-n-preserved : goal.loop-n-preserved
 loop-n-preserved g c =
     let ns = (g.C.Component.meaning c.args.component.now).names in
-    let t = c.loop-n.slots in
-    let hs = c.loop-n.hashes in
     let n = c.loop-n.n in
-    let s = c.in-Some.s in
-    let r = c.in-Some.ensures in
-    let holds = c.loop-n.invariant.0 in
-    let fits = ap length_fits (sym c.length_of-len.ensures) ∙ sym c.if-not-length_fits.ensures in
-    let in_row : n < 2048 = omega arith in (
-      subst
-          (λ (h : ℕ). Holds ns (set t s (n + 1)) (set hs n h) (n + 1))
-          (sym c.hash_name-hash.ensures)
-          (put ns t hs n s holds r.0 r.1 in_row),
-      none_more (name_stands ns) n c.loop-n.invariant.1 (stands_apart ns n fits (other ns t hs n s holds r.0 r.1)),
+    let w = added ns c.loop-n.table.slots n c.loop-n.invariant.0 c.in-Some.name c.in-Some.ensures.name (sym c.if-not-insert.false ∙ c.insert.ensures.new) in (
+      subst (λ (t : Slots). Holds ns t (n + 1)) (sym c.insert.ensures.slots) w.0,
+      none_more (name_stands ns) n c.loop-n.invariant.1 (stands_apart ns n (sym c.in-Some.ensures.fits) w.1),
     )
 
 pub returns : goal.returns
