@@ -1,4 +1,7 @@
 // The words of a source line, and what is wrong with one.
+ghost use Rattle.std.specs.Prelude.{◌≡◌, ◌↔◌, ◌⊎◌, IfErr, IsOk, Ok, IfOk, IsOkUnless};
+ghost use Rattle.panelsource.specs.declared.words.Problem.TheVariants.{Missing, Refused, Unfit};
+
 use assemble::builder::TEXT_MAX;
 use assemble::error::BuildError;
 use assemble::records::{Range, Run};
@@ -21,6 +24,8 @@ pub enum Problem<'a> {
 }
 
 impl<'a> From<BuildError> for Problem<'a> {
+    ghost from_gives = { λ error problem. problem ≡ Refused error };
+
     fn from(error: BuildError) -> Problem<'a> {
         Problem::Refused(error)
     }
@@ -70,7 +75,9 @@ impl<'a> Words<'a> {
     }
 
     // The next word, which stands for `what`.
-    pub fn expect(&mut self, what: &'static str) -> Result<&'a str, Problem<'a>> {
+    pub fn expect(&mut self, what: &'static str) -> Result<&'a str, Problem<'a>>
+        ensures { IsOkUnless result (Missing what.entry) }
+    {
         self.rest.next().ok_or(Problem::Missing(what))
     }
 
@@ -91,9 +98,10 @@ impl<'a> Words<'a> {
     pub fn number<N: FromStr>(&mut self, what: &'static str) -> Result<N, Problem<'a>>
     where
         N::Err: Drop,
+        ensures { IfErr result (λ p. (p ≡ Missing what.entry) ⊎ ((word : _) × (p ≡ Unfit what.entry word))) }
     {
         let word = self.expect(what)?;
-        parse(what, word, word)
+        parse::<N>(what, word, word)
     }
 
     // The code of a word of `codes`, or any code as a plain number.
@@ -131,7 +139,10 @@ impl<'a> Words<'a> {
 }
 
 // The word has to be the keyword.
-pub(crate) fn check<'a>(keyword: &'static str, word: &'a str) -> Result<(), Problem<'a>> {
+pub(crate) fn check<'a>(keyword: &'static str, word: &'a str) -> Result<(), Problem<'a>>
+    ensures same { IsOk result ↔ (word.now ≡ keyword.now) }
+    ensures unfit { IsOkUnless result (Unfit keyword.entry word.entry) }
+{
     if word == keyword {
         Ok(())
     } else {
@@ -147,6 +158,8 @@ pub(crate) fn parse<'a, T: FromStr>(
 ) -> Result<T, Problem<'a>>
 where
     T::Err: Drop,
+    ensures said { IfOk result (λ x. T.from_str_gives part.now (Ok x)) }
+    ensures unfit { IsOkUnless result (Unfit what.entry word.entry) }
 {
     part.parse().map_err(|_| Problem::Unfit(what, word))
 }
