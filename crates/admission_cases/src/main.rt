@@ -80,7 +80,7 @@ impl Cases {
         Ok(())
     }
 
-    // `N STATEMENT`
+    // `N STATEMENT`. The heap stays a parameter, as each call that allocates takes it.
     fn edit(&mut self, heap: Global, words: &str) -> anyhow::Result<()> {
         let (number, statement) = first_word(words);
         self.put(

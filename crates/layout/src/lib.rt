@@ -21,6 +21,7 @@ pub struct Mark {
     pub second: u8,
 }
 
+// A constructor, so that a mark is written as its two letters.
 pub fn letters(first: u8, second: u8) -> Mark
     ensures { result ≡ letters first second }
 {
@@ -127,6 +128,7 @@ impl Layout {
     }
 }
 
+// A constructor: a literal would take four lines for each extent.
 fn records_at(start: u32, count: u16) -> Extent
     ensures { result ≡ extent start count }
 {

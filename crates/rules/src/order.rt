@@ -61,7 +61,8 @@ pub fn body_in(instruction: Option<Instruction>) -> Option<u16>
     }
 }
 
-// Function `f` is the body of an instruction before.
+// Function `f` is the body of an instruction before. `taken` stays a slice beside
+// the body: a struct round a lent slice would say no more.
 fn is_taken(taken: &[bool], f: u16) -> bool
     ensures { result ≡ slice_index_or taken.now f false }
 {

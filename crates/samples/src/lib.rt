@@ -159,6 +159,7 @@ fn add_values(heap: Global, panel: &mut PanelBuilder, n: u16) -> Result<(), Buil
     Ok(())
 }
 
+// `panel` and `n` stay two parameters: each of these steps runs once.
 fn add_blocks(panel: &mut PanelBuilder, n: u16) -> Result<(), BuildError>
     requires { n ≤ 2048 }
 {
