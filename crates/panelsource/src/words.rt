@@ -49,7 +49,7 @@ impl<'a> fmt::Display for Problem<'a> {
 }
 
 // A word and the code that it stands for.
-pub type Code = (&'static str, u16);
+pub(crate) type Code = (&'static str, u16);
 
 const LIST: &str = "a list start+count";
 
@@ -57,37 +57,37 @@ const RANGE: &str = "a range start..end";
 
 // The words that are still to be read.
 #[derive(Drop)]
-pub struct Words<'a> {
+pub(crate) struct Words<'a> {
     rest: SplitWhitespace<'a>,
 }
 
 impl<'a> Words<'a> {
     // The words of a line, up to its comment.
-    pub fn of(line: &'a str) -> Words<'a> {
+    pub(crate) fn of(line: &'a str) -> Words<'a> {
         let (code, _) = line.split_once('#').unwrap_or((line, ""));
         Words {
             rest: code.split_whitespace(),
         }
     }
 
-    pub fn next(&mut self) -> Option<&'a str> {
+    pub(crate) fn next(&mut self) -> Option<&'a str> {
         self.rest.next()
     }
 
     // The next word, which stands for `what`.
-    pub fn expect(&mut self, what: &'static str) -> Result<&'a str, Problem<'a>>
+    pub(crate) fn expect(&mut self, what: &'static str) -> Result<&'a str, Problem<'a>>
         ensures { IsOkUnless result (Missing what.entry) }
     {
         self.rest.next().ok_or(Problem::Missing(what))
     }
 
     // The next word has to be this one.
-    pub fn keyword(&mut self, keyword: &'static str) -> Result<(), Problem<'a>> {
+    pub(crate) fn keyword(&mut self, keyword: &'static str) -> Result<(), Problem<'a>> {
         check(keyword, self.expect(keyword)?)
     }
 
     // Nothing may follow a whole statement.
-    pub fn end(&mut self) -> Result<(), Problem<'a>> {
+    pub(crate) fn end(&mut self) -> Result<(), Problem<'a>> {
         match self.rest.next() {
             Some(word) => Err(Problem::Leftover(word)),
             None => Ok(()),
@@ -95,7 +95,7 @@ impl<'a> Words<'a> {
     }
 
     // The next word as a number.
-    pub fn number<N: FromStr>(&mut self, what: &'static str) -> Result<N, Problem<'a>>
+    pub(crate) fn number<N: FromStr>(&mut self, what: &'static str) -> Result<N, Problem<'a>>
     where
         N::Err: Drop,
         ensures { IfErr result (λ p. (p ≡ Missing what.entry) ⊎ ((word : _) × (p ≡ Unfit what.entry word))) }
@@ -105,7 +105,7 @@ impl<'a> Words<'a> {
     }
 
     // The code of a word of `codes`, or any code as a plain number.
-    pub fn code(&mut self, what: &'static str, codes: &[Code]) -> Result<u16, Problem<'a>> {
+    pub(crate) fn code(&mut self, what: &'static str, codes: &[Code]) -> Result<u16, Problem<'a>> {
         let word = self.expect(what)?;
         match codes.iter().find(|(name, _)| *name == word) {
             Some((_, code)) => Ok(*code),
@@ -114,7 +114,7 @@ impl<'a> Words<'a> {
     }
 
     // A list behind its keyword, as `args 3+2`.
-    pub fn run(&mut self, keyword: &'static str) -> Result<Run, Problem<'a>> {
+    pub(crate) fn run(&mut self, keyword: &'static str) -> Result<Run, Problem<'a>> {
         self.keyword(keyword)?;
         let word = self.expect(LIST)?;
         let (start, count) = halves(word, "+");
@@ -124,12 +124,12 @@ impl<'a> Words<'a> {
         })
     }
 
-    pub fn range(&mut self) -> Result<Range, Problem<'a>> {
+    pub(crate) fn range(&mut self) -> Result<Range, Problem<'a>> {
         range_of(self.expect(RANGE)?)
     }
 
     // All words that are left, each a byte of two hexadecimal digits.
-    pub fn bytes(&mut self, heap: Global) -> Result<Vec<u8>, Problem<'a>> {
+    pub(crate) fn bytes(&mut self, heap: Global) -> Result<Vec<u8>, Problem<'a>> {
         self.rest
             .by_ref()
             .take(TEXT_MAX)
