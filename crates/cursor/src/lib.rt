@@ -76,10 +76,6 @@ impl Cursor {
         }
         let phis = self.phis.enter_rest();
         let instructions = self.instructions.enter_rest();
-        if phis || instructions {
-            Some(Line::OutsideBlocks)
-        } else {
-            None
-        }
+        (phis || instructions).then_some(Line::OutsideBlocks)
     }
 }

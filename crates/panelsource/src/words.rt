@@ -88,10 +88,9 @@ impl<'a> Words<'a> {
 
     // Nothing may follow a whole statement.
     pub(crate) fn end(&mut self) -> Result<(), Problem<'a>> {
-        match self.rest.next() {
-            Some(word) => Err(Problem::Leftover(word)),
-            None => Ok(()),
-        }
+        self.rest
+            .next()
+            .map_or(Ok(()), |word| Err(Problem::Leftover(word)))
     }
 
     // The next word as a number.

@@ -65,8 +65,5 @@ pub fn check_file(bytes: &[u8]) -> Result<Layout, Fault>
         bytes,
         layout.text.start as usize + layout.text.count as usize,
     )?;
-    match check_records(bytes, &layout)? {
-        Some(fault) => Err(fault),
-        None => Ok(layout),
-    }
+    check_records(bytes, &layout)?.map_or(Ok(layout), Err)
 }
