@@ -159,7 +159,7 @@ impl<'a, C: Component> Name<'a, C> {
 }
 
 // Names of a component in slots: each stands at the first slot from its hash on that
-// was free.
+// was free. An array and no map of the library, since admission uses no heap.
 #[derive(Drop)]
 struct NameTable {
     slots: [Option<Entry>; SLOTS],
