@@ -63,7 +63,8 @@ impl<'a, 'b, C: Component> Counted<'a, 'b, C> {
         }
     }
 
-    // No closure here: over `places`, which holds a reference, the proof did not close.
+    // A match, here and below: tried with `is_none_or`, and the proof did not close for
+    // a closure over `places`, which holds a reference.
     fn phi_keeps(&self, n: usize) -> bool
         ensures { result ≡ test_in (phi_fits (sizes_of self.now.inspection.now) (places_from self.now.inspection.now.mentions)) self.now.inspection.now.phis n }
     {

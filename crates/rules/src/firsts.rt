@@ -6,8 +6,8 @@ ghost use Rattle.rules.specs.Lists.{TestsBelow, first_failing, rest_from, refuse
 
 use component::fault::{Fault, Reason};
 
-// The first of `size` records that breaks the rule. A loop, since the search does not
-// follow `find` where the closure is tied to `p` only below `size`.
+// The first of `size` records that breaks the rule. A loop: tried with `find`, and the
+// proof did not close for a closure that the caller passes.
 pub fn first_failing<F: Fn(usize) -> bool>(size: usize, keeps: F) -> Option<usize>
     requires { F.IsAlwaysCallable keeps }
     ensures { (p : ℕ → Bool) → TestsBelow (F.post keeps) p size → result ≡ first_failing p size }
