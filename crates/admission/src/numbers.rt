@@ -14,6 +14,7 @@ pub fn admit_numbers<C: Component>(inspection: &Inspection<'_, C>) -> Result<(),
     requires { length inspection.now.mentions ≤ 32768 }
     ensures { result_err result ≡ number_fault inspection.now }
 {
+    // An array, since admission uses local memory alone.
     let mut before = [0u16; BEFORE_MENTIONS];
     let mention = inspection.read_mentions(&mut before);
     let counted = Counted {

@@ -80,7 +80,8 @@ impl Cases {
         Ok(())
     }
 
-    // `N STATEMENT`. The heap stays a parameter, as each call that allocates takes it.
+    // `N STATEMENT`. The heap stays a parameter: a field for it would be
+    // copied into each call.
     fn edit(&mut self, heap: Global, words: &str) -> anyhow::Result<()> {
         let (number, statement) = first_word(words);
         self.put(

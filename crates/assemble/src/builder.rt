@@ -130,8 +130,8 @@ impl PanelBuilder {
         self.names.add(&Record::Name(NameRecord { start, length }))
     }
 
-    // A line to a table, as the header has them: a loop over the tables would need
-    // an invariant, and is no plainer.
+    // A line to a table, as the header has them. A loop over an array of eight references
+    // is no plainer: the array would be those eight lines.
     fn put_header(&self, out: &mut Vec<u8>, text: u16) -> Result<(), AllocError>
         ensures { OnOk result (out.new.items ≡ header_after out.old.items self.now text) }
     {

@@ -1,10 +1,9 @@
 // The codes of a packed file that have a meaning. A field is a plain number all
-// the same, since a file may have any number there.
+// the same, since a file may have any number there. These enums are the builder's own,
+// since it shares nothing with the reader that it tests; only a kind of instruction is
+// read back from its code, so the others are written by `as u16` alone.
 ghost use Rattle.std.specs.Prelude.{◌≡◌};
 ghost use Rattle.assemble.specs.Codes.{Decodes, kind_code};
-
-use std::error::Error;
-use std::fmt;
 
 // What the panel's function 0 is.
 #[derive(Clone, Copy, Debug, PartialEq, Eq)]
@@ -95,11 +94,3 @@ impl TryFrom<u16> for InstructionKind {
         }
     }
 }
-
-impl fmt::Display for UnknownKind {
-    fn fmt<W: fmt::Write>(&self, f: &mut fmt::Formatter<W>) -> fmt::Result {
-        write!(f, "no kind of instruction has code {}", self.0)
-    }
-}
-
-impl Error for UnknownKind {}

@@ -1,7 +1,8 @@
 // The records of a packed file, field by field. A field is the number that is
 // written, so a record can also hold what means nothing. So codes are numbers
 // and no enums (`codes` has these), and what may be absent is a number and its
-// value and no `Option`.
+// value and no `Option`. `Run` stands here once more, since the builder shares nothing with
+// the reader that it tests. The records' `write` differ in every line.
 ghost use Rattle.std.specs.Prelude.{◌≡◌, ◌++◌, OnOk};
 ghost use Rattle.assemble.specs.Layout.{record_after, table_of, run_after, range_after, name_after, value_after, function_after, block_after, predecessor_after, phi_after, instruction_after, mention_after};
 

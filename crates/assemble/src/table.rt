@@ -1,8 +1,8 @@
-// The eight tables of a panel, in the order in which a packed file has them.
-ghost use Rattle.std.specs.Prelude.{◌≡◌};
+// The eight tables of a panel, in the order in which a packed file has them. The builder
+// has them once more, since it shares nothing with the reader that it tests.
+ghost use Rattle.std.specs.Prelude.{◌≡◌, Some};
 ghost use Rattle.assemble.specs.Tables.{IsNamed, mark_of, width_of, word_of};
 
-use std::error::Error;
 use std::fmt;
 use std::str::FromStr;
 
@@ -93,15 +93,9 @@ impl FromStr for Table {
     }
 }
 
-impl fmt::Display for UnknownRecord {
-    fn fmt<W: fmt::Write>(&self, f: &mut fmt::Formatter<W>) -> fmt::Result {
-        f.write_str("no record is called so")
-    }
-}
-
-impl Error for UnknownRecord {}
-
 impl fmt::Display for Table {
+    ghost output = { λ t. Some (word_of t) };
+
     fn fmt<W: fmt::Write>(&self, f: &mut fmt::Formatter<W>) -> fmt::Result {
         f.write_str(self.word())
     }

@@ -37,7 +37,8 @@ pub enum ValueType {
 }
 
 // The evaluation orders at which a value may be mutated: `start` is inside,
-// `end` is not.
+// `end` is not. Not one type with `Span`: they mean different things, and the Rust that
+// is ported has both.
 #[derive(Clone, Copy, PartialEq, Eq, Debug)]
 pub struct MutableRange {
     pub start: u32,

@@ -37,7 +37,9 @@ impl Cursor {
         }
     }
 
-    // The line that comes next. There is none once every record was listed.
+    // The line that comes next. There is none once every record was listed. Each table is
+    // asked only where those before it have none: a chain of `or_else` is no plainer, since
+    // each closure would borrow the cursor anew.
     pub fn advance(&mut self) -> Option<Line>
         ensures which { result ≡ line_at self.old }
         ensures passed { Passed result self.old self.new }

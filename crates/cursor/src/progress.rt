@@ -34,7 +34,8 @@ impl Progress {
         Progress { next: 0, end, size }
     }
 
-    // The next record of the list whose turn it is.
+    // The next record of the list whose turn it is. Not a `Range`, which would hide `next`
+    // and `end`: every definition is about these two.
     pub fn advance(&mut self) -> Option<usize>
         ensures cases { MatchOption result ((self.new.next ≡ self.old.next) × (self.old.next ≡ self.old.end)) (λ n. (n ≡ self.old.next) × (self.new.next ≡ n + 1)) }
         ensures kept { (self.new.end ≡ self.old.end) × (self.new.size ≡ self.old.size) }

@@ -8,6 +8,7 @@ ghost use Rattle.std.specs.Prelude.{◌≡◌, ◌+◌, ◌^◌, ◌<◌, slice_
 ghost use Rattle.std.specs.List.{between};
 ghost use Rattle.fields.specs.Fields.{le16, le32, run_at};
 
+pub mod codes;
 pub mod readers;
 
 use component::records::Run;
@@ -42,7 +43,8 @@ pub fn read16(part: &[u8], at: usize) -> u16
     }
 }
 
-// The four-byte field at `at`, low byte first.
+// The four-byte field at `at`, low byte first: two fields of two bytes, as the definition
+// has it.
 pub fn read32(part: &[u8], at: usize) -> u32
     requires { at + 4 < 2 ^ 64 }
     ensures { result ≡ le32 part.now at }

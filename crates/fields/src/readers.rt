@@ -1,13 +1,13 @@
 // Each record out of its part.
 ghost use Rattle.std.specs.Prelude.{◌≡◌, ℕ, ◌<◌, List};
 ghost use Rattle.component.specs.Codes.{number, name_code, instruction_code, return_code, span_code, mention_code};
-ghost use Rattle.fields.specs.Fields.{le16, name_of, type_of, effect_of};
+ghost use Rattle.fields.specs.Fields.{le16, name_of};
 ghost use Rattle.fields.specs.Records.{value_of, function_at, block_of, returned_of, predecessor_of, phi_of, instruction_value_of, instruction_of, span_of, place_of, mention_of};
 
-use crate::{read_run, read16, read32};
+use crate::{codes, read_run, read16, read32};
 use component::records::{
-    Block, Effect, Function, IdentifierName, Instruction, InstructionValue, Mention, MutableRange,
-    Phi, Place, Predecessor, Span, Value, ValueType,
+    Block, Function, IdentifierName, Instruction, InstructionValue, Mention, MutableRange, Phi,
+    Place, Predecessor, Span, Value,
 };
 
 // A record of the packed form, by what its bytes mean.
@@ -30,20 +30,13 @@ fn read_name(part: &[u8]) -> IdentifierName
     }
 }
 
-// A value's type. A code past the last reads as the last.
-fn read_type(part: &[u8]) -> ValueType
-    ensures { result ≡ type_of (le16 part.now 6) }
-{
-    ValueType::try_from(read16(part, 6)).unwrap_or(ValueType::EffectHook)
-}
-
 impl PackedRecord for Value {
     ghost of = { value_of };
 
     fn read(part: &[u8]) -> Value {
         Value {
             name: read_name(part),
-            kind: read_type(part),
+            kind: codes::value_type(read16(part, 6)),
             range: MutableRange {
                 start: read32(part, 8),
                 end: read32(part, 12),
@@ -144,18 +137,12 @@ fn read_span(part: &[u8]) -> Option<Span>
     })
 }
 
-fn read_effect(part: &[u8]) -> Effect
-    ensures { result ≡ effect_of (le16 part.now 6) }
-{
-    Effect::try_from(read16(part, 6)).unwrap_or(Effect::Store)
-}
-
 fn read_place(part: &[u8]) -> Place
     ensures { result ≡ place_of part.now }
 {
     Place {
         value: read16(part, 2),
-        effect: read_effect(part),
+        effect: codes::effect(read16(part, 6)),
         span: read_span(part),
     }
 }

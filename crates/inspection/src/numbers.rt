@@ -11,6 +11,8 @@ use component::Component;
 use rules::firsts::first_failing;
 use rules::records::{block_fits, function_fits, value_fits};
 
+// The tests of single records differ in their table alone, and what is generic in them
+// is `is_none_or`, which they call.
 impl<'a, C: Component> Inspection<'a, C> {
     fn value_keeps(&self, n: usize) -> bool
         ensures { result ≡ test_in (value_fits (sizes_of self.now)) self.now.values n }

@@ -15,6 +15,8 @@ use rules::order::{
 };
 use rules::records::end_of;
 
+// What is generic before and at the end of a table is `and_then` and `end_of`: a line each
+// is left.
 impl<'a, C: Component> Inspection<'a, C> {
     // The function before function `n`.
     fn function_before(&self, n: usize) -> Option<Function>
@@ -94,6 +96,7 @@ impl<'a, C: Component> Inspection<'a, C> {
         ensures { result ≡ instruction_order self.now }
     {
         let end = self.instructions_end();
+        // An array, since admission uses local memory alone.
         let mut taken = [false; 256];
         // By number, since each step notes a body for the next ones.
         for n in 0..self.sizes.instructions {

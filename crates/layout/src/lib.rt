@@ -135,7 +135,8 @@ fn records_at(start: u32, count: u16) -> Extent
     Extent { start, count }
 }
 
-// The layout that the header's sizes give.
+// The layout that the header's sizes give. The lines are those of the definition; a
+// method for an extent's end would ask for a bound on the size of a record.
 pub fn read_layout(bytes: &[u8]) -> Layout
     ensures value { result ≡ layout_of bytes.now }
     ensures bound { result.text.start + result.text.count ≤ 7012269 }

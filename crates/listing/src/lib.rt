@@ -26,7 +26,6 @@ use component::records::{Block, Function};
 pub use cursor::Cursor;
 use cursor::Line;
 use page::Page;
-use std::alloc::Global;
 pub use text::Text;
 
 // A component, the lines that are to come, and the text of those that came.
@@ -38,13 +37,12 @@ pub struct Listing<'a, C: Component> {
 }
 
 impl<'a, C: Component> Listing<'a, C> {
-    // A listing with the lines that come before those of the records.
-    pub fn new(component: &'a C, heap: Global) -> Listing<'a, C>
+    // Adds the lines that come before those of the records.
+    pub fn new(component: &'a C, mut text: Text) -> Listing<'a, C>
         ensures component { result.component.now ≡ component.now }
         ensures first { First (sizes_of (C.Component.meaning component.now)) result.cursor }
     {
         let sizes = component.sizes();
-        let mut text = Text::new(heap);
         text.push(format_args!("kind {}\n", component.kind()));
         Page::new(component, &mut text).push_sizes(sizes);
         Listing {

@@ -31,12 +31,13 @@ impl<'a, C: Component> Page<'a, C> {
     fn push_list<F: Fn(&mut Page<'a, C>, usize)>(&mut self, list: Run, push_entry: F)
         requires { F.IsAlwaysCallable push_entry }
     {
+        let start = usize::from(list.start);
         let shown = shown_count(list);
-        for i in 0..shown {
-            if i > 0 {
+        for n in start..start + shown {
+            if n > start {
                 self.push(", ");
             }
-            push_entry(self, usize::from(list.start) + i);
+            push_entry(self, n);
         }
         let hidden = usize::from(list.count) - shown;
         if hidden > 0 {

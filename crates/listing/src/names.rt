@@ -36,6 +36,7 @@ impl<'a, C: Component> Page<'a, C> {
             self.push_unknown(n);
             return;
         };
+        // An array: the front has a size of its own, and a `Vec` could fail.
         let mut buffer = [0; MOST_SHOWN];
         let front = &mut buffer[0..length.min(MOST_SHOWN)];
         read_front(self.component, n, front);

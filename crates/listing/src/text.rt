@@ -2,7 +2,9 @@
 use std::alloc::{AllocError, Global};
 use std::fmt;
 
-// Once memory was short, nothing more is added, and `written` says so.
+// Once memory was short, nothing more is added, and `written` says so. The result stands
+// beside the text, as in std's builders of `Debug`: in one `Result` the text would be lost
+// with the first error.
 #[derive(Drop)]
 pub struct Text {
     written: String,

@@ -6,7 +6,7 @@ ghost use Rattle.std.specs.Result.{result_err};
 ghost use Rattle.std.specs.List.{slice_get};
 ghost use Rattle.component.specs.Codes.{CodesBelow};
 ghost use Rattle.component.specs.Meaning.{Meaning};
-ghost use Rattle.fields.specs.Fields.{le16, function_of};
+ghost use Rattle.fields.specs.Fields.{le16};
 ghost use Rattle.layout.specs.Layout.{extent_in, size_of};
 ghost use Rattle.scan.specs.Faults.{fault_of};
 ghost use Rattle.scan.specs.Files.{AcceptedExactly};
@@ -18,6 +18,7 @@ use component::fault::Fault;
 use component::records::{
     Block, Function, Instruction, Mention, Phi, Predecessor, ReactFunctionType, Sizes, Value,
 };
+use fields::codes::function_type;
 use fields::readers::PackedRecord;
 use fields::{part_at, read16};
 pub use layout::max_length;
@@ -42,13 +43,6 @@ fn byte_of(name: &[u8], i: usize) -> Option<u8>
     name.get(i).copied()
 }
 
-// The kind of function 0. A code past the last reads as the last.
-fn read_kind(bytes: &[u8]) -> ReactFunctionType
-    ensures { result ≡ function_of (le16 bytes.now 20) }
-{
-    ReactFunctionType::try_from(read16(bytes, 20)).unwrap_or(ReactFunctionType::Other)
-}
-
 #[derive(Clone, Copy)]
 pub struct Packed<'a> {
     bytes: &'a [u8],
@@ -71,7 +65,7 @@ impl<'a> Packed<'a> {
         let layout = check_file(bytes)?;
         Ok(Packed {
             bytes,
-            kind: read_kind(bytes),
+            kind: function_type(read16(bytes, 20)),
             layout,
         })
     }

@@ -12,7 +12,7 @@
 
 use anyhow::{anyhow, bail};
 use component::Component;
-use listing::Listing;
+use listing::{Listing, Text};
 use packed::Packed;
 use panelsource::source::parse_source;
 use std::alloc::{AllocError, Global};
@@ -108,7 +108,7 @@ impl Cases {
         let Ok(packed) = Packed::open(self.file.as_slice()) else {
             bail!("nothing to list");
         };
-        let mut listing = Listing::new(&packed, rt.alloc());
+        let mut listing = Listing::new(&packed, Text::new(rt.alloc()));
         while listing.push_next() {}
         print!(rt; "{}", listing.text.written()?)?;
         Ok(())

@@ -102,7 +102,7 @@ fn read_input(rt: &HostRuntime) -> io::Result<Vec<u8>> {
 fn print_listing(rt: &HostRuntime, length: usize, packed: &Packed) -> io::Result<()> {
     let text_length = packed.text_length();
     println!(rt; "file {length}  text {text_length}")?;
-    let mut listing = Listing::new(packed, rt.alloc());
+    let mut listing = Listing::new(packed, Text::new(rt.alloc()));
     while listing.push_next() {
         if listing.text.len() >= PIECE {
             print_piece(rt, &mut listing.text)?;

@@ -1,6 +1,7 @@
 // The words of a source line, and what is wrong with one.
 ghost use Rattle.std.specs.Prelude.{◌≡◌, ◌↔◌, ◌⊎◌, IfErr, IsOk, Ok, IfOk, IsOkUnless};
 ghost use Rattle.panelsource.specs.declared.words.Problem.TheVariants.{Missing, Refused, Unfit};
+ghost use Rattle.assemble.specs.declared.error.BuildError.TheVariants.{Memory};
 
 use assemble::builder::TEXT_MAX;
 use assemble::error::BuildError;
@@ -26,12 +27,14 @@ pub enum Problem<'a> {
 impl<'a> From<BuildError> for Problem<'a> {
     ghost from_gives = { λ error problem. problem ≡ Refused error };
 
-    fn from(error: BuildError) -> Problem<'a> {
-        Problem::Refused(error)
+    fn from(refusal: BuildError) -> Problem<'a> {
+        Problem::Refused(refusal)
     }
 }
 
 impl<'a> From<AllocError> for Problem<'a> {
+    ghost from_gives = { λ _ problem. problem ≡ Refused Memory };
+
     fn from(error: AllocError) -> Problem<'a> {
         Problem::Refused(BuildError::from(error))
     }
@@ -137,7 +140,7 @@ impl<'a> Words<'a> {
     }
 }
 
-// The word has to be the keyword.
+// The word has to be the keyword. An `if`: by `then_some` and `ok_or` it is no plainer.
 pub(crate) fn check<'a>(keyword: &'static str, word: &'a str) -> Result<(), Problem<'a>>
     ensures same { IsOk result ↔ (word.now ≡ keyword.now) }
     ensures unfit { IsOkUnless result (Unfit keyword.entry word.entry) }

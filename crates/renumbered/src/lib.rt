@@ -113,7 +113,7 @@ impl<C: Component> Renumbered<C> {
     }
 
     // Exchanges the numbers `a` and `b` of two values. They stay two parameters: a
-    // pair would be made at each call and taken apart in each function.
+    // pair would be made at each call, and its facts name each of the two.
     fn exchange_values(&mut self, a: usize, b: usize)
         requires first { a < 2048 }
         requires second { b < 2048 }

@@ -10,7 +10,8 @@ use component::records::{Block, Function, Instruction, InstructionValue, Run};
 
 const NO_LIST: Run = Run { start: 0, count: 0 };
 
-// The blocks of a function, and none of none.
+// The blocks of a function, and none of none. What is generic in these three is
+// `map_or`, which they call.
 pub fn blocks_in(function: Option<Function>) -> Run
     ensures { result ≡ run_of (λ (f : AFunction). f.blocks) function }
 {

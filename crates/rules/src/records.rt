@@ -59,8 +59,7 @@ pub fn value_fits(sizes: Sizes, value: Value) -> bool
 {
     match value.name {
         IdentifierName::Unnamed => true,
-        IdentifierName::Named(n) => (n as usize) < sizes.names,
-        IdentifierName::Promoted(n) => (n as usize) < sizes.names,
+        IdentifierName::Named(n) | IdentifierName::Promoted(n) => (n as usize) < sizes.names,
     }
 }
 

@@ -159,7 +159,7 @@ fn add_values(heap: Global, panel: &mut PanelBuilder, n: u16) -> Result<(), Buil
     Ok(())
 }
 
-// `panel` and `n` stay two parameters: each of these steps runs once.
+// `panel` and `n` stay two parameters: a struct of both would be made for three calls.
 fn add_blocks(panel: &mut PanelBuilder, n: u16) -> Result<(), BuildError>
     requires { n ≤ 2048 }
 {

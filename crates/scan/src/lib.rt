@@ -36,7 +36,8 @@ fn check_table(
     Ok(found)
 }
 
-// One run over all records.
+// One run over all records: a line to a table, each handed what was found before. A loop
+// over the tables is no shorter, since each answer goes into the next call.
 fn check_records(bytes: &[u8], layout: &Layout) -> Result<Option<Fault>, Fault>
     ensures { Scanned result (marks_fault bytes.now layout.now) (codes_fault bytes.now layout.now) }
 {
