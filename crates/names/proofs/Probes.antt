@@ -1,5 +1,5 @@
 -- The steps of looking for a name in the table.
-use Rattle.std.proofs.Common.{◌≡◌, ℕ, zero, suc, ◌+◌, ◌-◌, ◌%◌, ◌<◌, ◌≤◌, Bool, true, false, cond, if◌then◌else◌, is_none, ◌≢◌, ◌⊎◌, List, [], ◌∷◌, map, length, get_or, set, replicate, count_by, find, Some, None, Option, is_some, sym, refl, ap, ◌∙◌, subst, inl, inr, ⊎_elim, arith, length-set}
+use Rattle.std.proofs.Common.{◌≡◌, ℕ, zero, suc, ◌+◌, ◌-◌, ◌%◌, ◌<◌, ◌≤◌, Bool, true, false, cond, if◌then◌else◌, is_none, ◌≢◌, ◌⊎◌, List, [], ◌∷◌, map, length, get_or, set, replicate, find, Some, None, Option, is_some, sym, refl, ap, ◌∙◌, subst, inl, inr, ⊎_elim, arith, length-set}
 use Rattle.std.specs.List.{range_with_len, slice_get, position_or_len}
 use Rattle.std.proofs.lemmas.List.{length-replicate}
 use Rattle.std.proofs.lemmas.List.Sums.{sum_by-set, sum_by-cons, passes_at_first, fails_before_first}
@@ -10,38 +10,14 @@ use Rattle.std.proofs.lemmas.Bool.{cases_eq, cases_lt, cases_order}
 use Rattle.std.proofs.lemmas.Grind.{common_steps}
 use Rattle.rules.specs.Rules.{name_at}
 use Rattle.names.specs.declared.Entry.{Entry}
-use Rattle.names.specs.Names.{NumberedName, hashed}
-use Rattle.names.specs.Slots.{Slots, at, slot, entry_of, matches, ends_search, last_slot, if_free, free_slot, written, with_name}
-use Rattle.names.proofs.Twins.{Twin, alike_same, same_alike}
+use Rattle.names.specs.Names.{numbered, hash_at}
+use Rattle.names.specs.Slots.{Slots, at, slot, entry_of, used, Home, Passed, Free, Twin, Holds, matches, ends_search, last_slot, if_free, free_slot, written}
+use Rattle.names.specs.Laws.{EmptyTable, SlotIsFree, NoSlotHasTwin, NameAdded, NameNotAdded}
+use Rattle.names.proofs.Twins.{alike_same, same_alike}
 
-abbrev pub numbered : List (List ℕ) → ℕ → NumberedName
-numbered ns n = record { names = ns; number = n }
-
-abbrev pub hash_at : List (List ℕ) → ℕ → ℕ
-hash_at ns n = hashed (name_at ns n)
-
-abbrev pub used : Slots → ℕ
-used t = count_by is_some t
-
--- name k can be found from its hash on
-abbrev pub Home : List (List ℕ) → Slots → ℕ → Type 0
-Home ns t k = (d : ℕ) × (at t (slot (hash_at ns k) d) ≡ Some (entry_of (numbered ns k))) × ((e : ℕ) → e < d → at t (slot (hash_at ns k) e) ≢ None)
-
--- the search for name n passes the slots before d from its hash on
-abbrev pub Passed : List (List ℕ) → Slots → ℕ → ℕ → Type 0
-Passed ns t n d = (e : ℕ) → e < d → ends_search (numbered ns n) (at t (slot (hash_at ns n) e)) ≡ false
-
--- s is the free slot where name n belongs
-abbrev pub Free : List (List ℕ) → Slots → ℕ → ℕ → Type 0
-Free ns t n s = (d : ℕ) × (s ≡ slot (hash_at ns n) d) × (at t s ≡ None) × Passed ns t n d
-
--- the table holds the names below n and no other, beside their hashes
-pub record Holds (ns : List (List ℕ)) (t : Slots) (n : ℕ) : Type 0 where
-  pub long : length t ≡ 4096
-  pub low : (s : ℕ) (e : Entry) → at t s ≡ Some e → e.name < n
-  pub hash : (s : ℕ) (e : Entry) → at t s ≡ Some e → e.hash ≡ hash_at ns e.name
-  pub few : used t ≤ n
-  pub home : (k : ℕ) → k < n → Home ns t k
+-- no slot before d from its hash on ends the search for name n
+abbrev Unended : List (List ℕ) → Slots → ℕ → ℕ → Type 0
+Unended ns t n d = (e : ℕ) → e < d → ends_search (numbered ns n) (at t (slot (hash_at ns n) e)) ≡ false
 
 abbrev one : Option Entry → ℕ
 one o = cond (is_some o) 1 0
@@ -60,9 +36,9 @@ all_used (Some e ∷ t) h =
 onto : (h s : ℕ) → s < 4096 → (d : ℕ) × (d < 4096) × (slot h d ≡ s)
 onto h s l = ((s + (4096 - h % 4096)) % 4096, omega arith, omega arith)
 
--- a search does not pass a free slot
-passes_none : (x : NumberedName) (o : Option Entry) → o ≡ None → ends_search x o ≡ false → ⊥
-passes_none x o q e = grind (arith, common_steps)
+-- what holds an entry is not free
+taken : (x : Entry) (o : Option Entry) → o ≡ Some x → o ≢ None
+taken x o e q = cc
 
 -- a table with so few names has a free slot
 not_full : (ns : List (List ℕ)) (t : Slots) (i d : ℕ) → Holds ns t i → i ≤ 2048 → 4096 ≤ d → Passed ns t i d → ⊥
@@ -70,7 +46,8 @@ not_full ns t i d o l e p =
     let all : (s : ℕ) → s < length t → at t s ≢ None =
     λ s m q.
     let w = onto (hash_at ns i) s (omega (arith, o.long)) in
-    passes_none (numbered ns i) (at t (slot (hash_at ns i) w.0)) (ap (at t) w.2 ∙ q) (p w.0 (omega (arith, w.1))) in
+    let v = p w.0 (omega (arith, w.1)) in
+    taken v.0 (at t (slot (hash_at ns i) w.0)) v.1 (ap (at t) w.2 ∙ q) in
     omega (arith, all_used t all, o.few, o.long)
 
 after_set : (t : Slots) (v : ℕ) (x : Option Entry) (u : ℕ) → v < length t → ((u ≡ v) × (at (set t v x) u ≡ x)) ⊎ ((u ≢ v) × (at (set t v x) u ≡ at t u))
@@ -81,6 +58,16 @@ after_set t v x u h =
 matching : (ns : List (List ℕ)) (k i : ℕ) (e : Entry) → e.name ≡ k → e.hash ≡ hash_at ns k → name_at ns k ≡ name_at ns i → matches (numbered ns i) e ≡ true
 matching ns k i e a b q =
     grind (arith, common_steps, same_alike (name_at ns i) (name_at ns e.name))
+
+-- a slot that does not end the search holds another name
+holds_other : (ns : List (List ℕ)) (t : Slots) (i u : ℕ) → Holds ns t i → (v : Option Entry) → at t u ≡ v → ends_search (numbered ns i) v ≡ false → (x : Entry) × (at t u ≡ Some x) × (name_at ns x.name ≢ name_at ns i)
+holds_other ns t i u o None q e = absurd (cc)
+holds_other ns t i u o (Some x) q e = (x, q, λ r. cc (e, matching ns x.name i x refl (o.hash u x q) r))
+
+passed : (ns : List (List ℕ)) (t : Slots) (i d : ℕ) → Holds ns t i → Unended ns t i d → Passed ns t i d
+passed ns t i d o p e l =
+    let u = slot (hash_at ns i) e in
+    holds_other ns t i u o (at t u) refl (p e l)
 
 -- name i is written into its slot
 module _ (ns : List (List ℕ)) (t : Slots) (i s : ℕ) (o : Holds ns t i) (low : s < 4096) (f : Free ns t i s) where
@@ -109,7 +96,7 @@ module _ (ns : List (List ℕ)) (t : Slots) (i s : ℕ) (o : Holds ns t i) (low 
   mine = (
     f.0,
     grind (arith, common_steps, f.1, fits),
-    λ e l. stays (slot (hash_at ns i) e) (grind (arith, common_steps, f.3 e l)),
+    λ e l. let x = f.3 e l in stays (slot (hash_at ns i) e) (taken x.0 (at t (slot (hash_at ns i) e)) x.1),
   )
 
   put : Holds ns after (i + 1)
@@ -127,13 +114,14 @@ module _ (ns : List (List ℕ)) (t : Slots) (i s : ℕ) (o : Holds ns t i) (low 
       }
 
   -- no earlier name is like name i
-  other : (k : ℕ) → k < i → name_at ns k ≡ name_at ns i → ⊥
-  other k l e =
-      let w = o.home k l in
-      let m = matching ns k i (entry_of (numbered ns k)) refl refl e in
+  other : Twin ns i → ⊥
+  other z =
+      let k = z.0 in
+      let e = z.2 in
+      let w = o.home k z.1 in
       ⊎_elim
       (λ q. grind (arith, common_steps, w.1, f.1, f.2, e))
-      (⊎_elim (λ a. grind (arith, common_steps, m, w.1, f.3 w.0 a, e)) (λ a. grind (arith, common_steps, w.2 f.0 a, f.1, f.2, e)))
+      (⊎_elim (λ a. let x = f.3 w.0 a in grind (arith, common_steps, w.1, x.1, x.2, e)) (λ a. grind (arith, common_steps, w.2 f.0 a, f.1, f.2, e)))
       (cases_order w.0 f.0)
 
 none_at : (n s : ℕ) → at (replicate n None) s ≡ None
@@ -145,7 +133,7 @@ used_none : (n : ℕ) → used (replicate n None) ≡ 0
 used_none zero = refl
 used_none (suc n) = sum_by-cons one None (replicate n None) ∙ omega (arith, used_none n)
 
-pub empty : (ns : List (List ℕ)) → Holds ns (replicate 4096 None) 0
+pub empty : EmptyTable
 empty ns =
     record {
       long = length-replicate {A = Option Entry} 4096 None;
@@ -172,7 +160,7 @@ module _ (ns : List (List ℕ)) (t : Slots) (i : ℕ) where
   abbrev ends : ℕ → Bool
   ends s = ends_search (numbered ns i) (at t s)
 
-  stopped : (n s : ℕ) → find ends (map (slot (hash_at ns i)) (range_with_len 0 n)) ≡ Some s → (ends s ≡ true) × ((d : ℕ) × (s ≡ slot (hash_at ns i) d) × Passed ns t i d)
+  stopped : (n s : ℕ) → find ends (map (slot (hash_at ns i)) (range_with_len 0 n)) ≡ Some s → (ends s ≡ true) × ((d : ℕ) × (s ≡ slot (hash_at ns i) d) × Unended ns t i d)
   stopped n s e =
       let xs = map (slot (hash_at ns i)) (range_with_len 0 n) in
       let d = position_or_len ends xs in
@@ -188,7 +176,7 @@ module _ (ns : List (List ℕ)) (t : Slots) (i : ℕ) where
         ),
       )
 
-  never : (n : ℕ) → find ends (map (slot (hash_at ns i)) (range_with_len 0 n)) ≡ None → Passed ns t i n
+  never : (n : ℕ) → find ends (map (slot (hash_at ns i)) (range_with_len 0 n)) ≡ None → Unended ns t i n
   never n e u m =
       let xs = map (slot (hash_at ns i)) (range_with_len 0 n) in
       let d = position_or_len ends xs in
@@ -196,50 +184,52 @@ module _ (ns : List (List ℕ)) (t : Slots) (i : ℕ) where
       let past : (d < n) → ⊥ = λ l. cc (sym e ∙ find_at ends xs ∙ slice_get-get_or xs d 0 (omega arith)) in
       ap ends (sym (get_or-map-range_with_len (slot (hash_at ns i)) 0 n u u 0 m (omega arith))) ∙ fails_before_first ends xs u 0 (⊎_elim (λ l. absurd (past l)) (λ l. omega arith) (cases_lt d n))
 
-  last_stopped : (s : ℕ) → last_slot t (numbered ns i) ≡ Some s → (ends s ≡ true) × ((d : ℕ) × (s ≡ slot (hash_at ns i) d) × Passed ns t i d)
+  last_stopped : (s : ℕ) → last_slot t (numbered ns i) ≡ Some s → (ends s ≡ true) × ((d : ℕ) × (s ≡ slot (hash_at ns i) d) × Unended ns t i d)
   unfolding last_slot
   last_stopped s e = stopped 4096 s e
 
-  last_never : last_slot t (numbered ns i) ≡ None → Passed ns t i 4096
+  last_never : last_slot t (numbered ns i) ≡ None → Unended ns t i 4096
   unfolding last_slot
   last_never e = never 4096 e
 
-  is_free : (s : ℕ) → free_slot t (numbered ns i) ≡ Some s → Free ns t i s
+  free : Holds ns t i → (s : ℕ) → free_slot t (numbered ns i) ≡ Some s → Free ns t i s
   unfolding free_slot
-  is_free s e =
+  free o s e =
       let c = free_end t (last_slot t (numbered ns i)) s e in
       let w = last_stopped s c.0 in
-      (w.1.0, w.1.1, c.1, w.1.2)
+      (w.1.0, w.1.1, c.1, passed ns t i w.1.0 o w.1.2)
 
   taken_twin : Holds ns t i → (s : ℕ) (e : Entry) → at t s ≡ Some e → ends s ≡ true → Twin ns i
   taken_twin o s e q r =
       (e.name, o.low s e q, grind (arith, common_steps, alike_same (name_at ns i) (name_at ns e.name)))
 
-  has_twin : Holds ns t i → i ≤ 2048 → free_slot t (numbered ns i) ≡ None → Twin ns i
+  twin : Holds ns t i → i ≤ 2048 → free_slot t (numbered ns i) ≡ None → Twin ns i
   unfolding free_slot
-  has_twin o l e =
+  twin o l e =
       ⊎_elim
-      (λ q. absurd (not_full ns t i 4096 o l (omega arith) (last_never q)))
+      (λ q. absurd (not_full ns t i 4096 o l (omega arith) (passed ns t i 4096 o (last_never q))))
       (λ w. taken_twin o w.0 w.1 w.3 (last_stopped w.0 w.2).0)
       (taken_end t (last_slot t (numbered ns i)) e)
 
-  twin_when : Holds ns t i → i ≤ 2048 → (l : Option ℕ) → free_slot t (numbered ns i) ≡ l → false ≡ is_some l → Twin ns i
-  twin_when o l None q e = has_twin o l q
-  twin_when o l (Some s) q e = cc
+  not_added_when : Holds ns t i → i ≤ 2048 → (l : Option ℕ) → free_slot t (numbered ns i) ≡ l → is_some l ≡ false → (written t (numbered ns i) l ≡ t) × Twin ns i
+  not_added_when o l None q e = (refl, twin o l q)
+  not_added_when o l (Some s) q e = absurd (cc)
 
-  added_when : Holds ns t i → (l : Option ℕ) → free_slot t (numbered ns i) ≡ l → true ≡ is_some l → Holds ns (written t (numbered ns i) l) (i + 1) × ((k : ℕ) → k < i → name_at ns k ≡ name_at ns i → ⊥)
+  added_when : Holds ns t i → (l : Option ℕ) → free_slot t (numbered ns i) ≡ l → is_some l ≡ true → Holds ns (written t (numbered ns i) l) (i + 1) × (Twin ns i → ⊥)
   added_when o None q e = absurd (cc)
   added_when o (Some s) q e =
-      let f = is_free s q in
+      let f = free o s q in
       let low : s < 4096 = omega (arith, f.1) in
       (put ns t i s o low f, other ns t i s o low f)
 
-  -- a name that is not added is like an earlier one
-  pub not_added : Holds ns t i → i ≤ 2048 → (x : NumberedName) → x ≡ numbered ns i → false ≡ is_some (free_slot t x) → Twin ns i
-  not_added o l x q e = twin_when o l (free_slot t (numbered ns i)) refl (e ∙ ap (λ z. is_some (free_slot t z)) q)
+pub is_free : SlotIsFree
+is_free ns t n s o e = free ns t n o s e
 
-  -- one that is added is like no earlier one, and the table holds it
-  pub added : Holds ns t i → (x : NumberedName) → x ≡ numbered ns i → true ≡ is_some (free_slot t x) → Holds ns (with_name t x) (i + 1) × ((k : ℕ) → k < i → name_at ns k ≡ name_at ns i → ⊥)
-  added o x q e =
-      let w = added_when o (free_slot t (numbered ns i)) refl (e ∙ ap (λ z. is_some (free_slot t z)) q) in
-      (subst (λ (z : NumberedName). Holds ns (with_name t z) (i + 1)) (sym q) w.0, w.1)
+pub has_twin : NoSlotHasTwin
+has_twin ns t n o l e = twin ns t n o l e
+
+pub added : NameAdded
+added ns t n o e = added_when ns t n o (free_slot t (numbered ns n)) refl e
+
+pub not_added : NameNotAdded
+not_added ns t n o l e = not_added_when ns t n o l (free_slot t (numbered ns n)) refl e

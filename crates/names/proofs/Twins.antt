@@ -3,10 +3,7 @@ use Rattle.std.proofs.Common.{◌≡◌, ℕ, zero, suc, ◌<◌, Bool, true, fa
 use Rattle.std.proofs.lemmas.Bool.{eqb-true, eq-eqb, and_parts, and_from, and_left, and_right, or_left, or_right, or_from, cases_eq, cases_Bool}
 use Rattle.rules.specs.Lists.{any_below}
 use Rattle.rules.specs.Rules.{alike, name_at, repeated, length_fits, name_stands}
-
--- an earlier name is like name n
-abbrev pub Twin : List (List ℕ) → ℕ → Type 0
-Twin ns n = (k : ℕ) × (k < n) × (name_at ns k ≡ name_at ns n)
+use Rattle.names.specs.Slots.{Twin}
 
 pub alike_same : (xs ys : List ℕ) → alike xs ys ≡ true → xs ≡ ys
 alike_same [] [] e = refl

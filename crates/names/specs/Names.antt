@@ -7,6 +7,10 @@ pub record NumberedName : Type 0 where
   pub names : List (List ℕ)
   pub number : ℕ
 
+-- name n of the names ns
+abbrev pub numbered : List (List ℕ) → ℕ → NumberedName
+numbered ns n = record { names = ns; number = n }
+
 abbrev pub bytes_of : NumberedName → List ℕ
 bytes_of x = name_at x.names x.number
 
@@ -21,3 +25,7 @@ mixed_in h (Some b) = mixed h b
 -- a name's hash; that it is a function of the bytes is all that is used of it
 unfoldable pub hashed : List ℕ → ℕ
 hashed bs = fold mixed 2166136261 bs
+
+-- the hash of name n
+abbrev pub hash_at : List (List ℕ) → ℕ → ℕ
+hash_at ns n = hashed (name_at ns n)

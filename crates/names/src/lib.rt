@@ -10,6 +10,7 @@ ghost use Rattle.rules.specs.Rules.{name_at, length_fits, alike};
 ghost use Rattle.rules.specs.Admission.{name_breach};
 ghost use Rattle.names.specs.Names.{NumberedName, bytes_of, mixed_in, hashed};
 ghost use Rattle.names.specs.Slots.{at, entry_of, slot, matches, ends_search, last_slot, free_slot, with_name};
+ghost use Rattle.names.specs.Laws.{EmptyTable, SlotIsFree, NoSlotHasTwin, NameAdded, NameNotAdded};
 
 use component::Component;
 use std::marker::Model;
@@ -208,12 +209,22 @@ impl NameTable {
     }
 }
 
+// What holds of every table; nothing comes of it but these laws.
+fn table_laws()
+    ensures empty { EmptyTable }
+    ensures free { SlotIsFree }
+    ensures twin { NoSlotHasTwin }
+    ensures added { NameAdded }
+    ensures not_added { NameNotAdded }
+{}
+
 // The first name that has not 1 to 64 bytes or is like an earlier one.
 pub fn first_failing_name<C: Component>(component: &C, names: usize) -> Option<usize>
     requires size { names ≡ length (C.Component.meaning component.now).names }
     requires few { names ≤ 2048 }
     ensures { result ≡ name_breach (C.Component.meaning component.now) }
 {
+    table_laws();
     let mut table = NameTable::new();
     // A `for`, since each step changes the table: a closure of `find` that did so would
     // prove nothing of it.

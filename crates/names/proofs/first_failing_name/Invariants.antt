@@ -1,7 +1,7 @@
 use Rattle.std.proofs.Common.{◌≡◌, None}
 use Rattle.rules.specs.Lists.{first_failing}
 use Rattle.rules.specs.Rules.{name_stands}
-use Rattle.names.proofs.Probes.{Holds}
+use Rattle.names.specs.Slots.{Holds}
 use Rattle.names.proofs.first_failing_name.Given as goal
 
 -- the names before n stand, and the table holds them
