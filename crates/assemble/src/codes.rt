@@ -7,7 +7,7 @@ use std::error::Error;
 use std::fmt;
 
 // What the panel's function 0 is.
-#[derive(Clone, Copy, Debug, PartialEq, Eq)]
+#[derive(Clone, Copy)]
 pub enum PanelKind {
     Component,
     Hook,
@@ -15,7 +15,7 @@ pub enum PanelKind {
 }
 
 // What a value is called.
-#[derive(Clone, Copy, Debug, PartialEq, Eq)]
+#[derive(Clone, Copy)]
 pub enum NameForm {
     Unnamed,
     Named,
@@ -23,7 +23,7 @@ pub enum NameForm {
 }
 
 // What a value's type is.
-#[derive(Clone, Copy, Debug, PartialEq, Eq)]
+#[derive(Clone, Copy)]
 pub enum ValueType {
     Other,
     UseState,
@@ -33,7 +33,7 @@ pub enum ValueType {
 }
 
 // What an instruction does.
-#[derive(Clone, Copy, Debug, PartialEq, Eq)]
+#[derive(Clone, Copy)]
 pub enum InstructionKind {
     Other,
     LoadLocal,
@@ -45,7 +45,7 @@ pub enum InstructionKind {
 }
 
 // What a mention is.
-#[derive(Clone, Copy, Debug, PartialEq, Eq)]
+#[derive(Clone, Copy)]
 pub enum MentionForm {
     Place,
     Spread,
@@ -53,7 +53,7 @@ pub enum MentionForm {
 }
 
 // What a mention does to its value.
-#[derive(Clone, Copy, Debug, PartialEq, Eq)]
+#[derive(Clone, Copy)]
 pub enum Effect {
     Unknown,
     Freeze,
@@ -66,7 +66,7 @@ pub enum Effect {
 }
 
 // A number that is no instruction's code.
-#[derive(Clone, Copy, Debug, PartialEq, Eq)]
+#[derive(Clone, Copy, Debug)]
 pub struct UnknownKind(pub u16);
 
 impl From<InstructionKind> for u16 {
