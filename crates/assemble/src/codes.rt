@@ -6,7 +6,7 @@ ghost use Rattle.std.specs.Prelude.{◌≡◌};
 ghost use Rattle.assemble.specs.Codes.{Decodes, kind_code};
 
 // What the panel's function 0 is.
-#[derive(Clone, Copy, Debug, PartialEq, Eq)]
+#[derive(Clone, Copy)]
 pub enum PanelKind {
     Component,
     Hook,
@@ -14,7 +14,7 @@ pub enum PanelKind {
 }
 
 // What a value is called.
-#[derive(Clone, Copy, Debug, PartialEq, Eq)]
+#[derive(Clone, Copy)]
 pub enum NameForm {
     Unnamed,
     Named,
@@ -22,7 +22,7 @@ pub enum NameForm {
 }
 
 // What a value's type is.
-#[derive(Clone, Copy, Debug, PartialEq, Eq)]
+#[derive(Clone, Copy)]
 pub enum ValueType {
     Other,
     UseState,
@@ -32,7 +32,7 @@ pub enum ValueType {
 }
 
 // What an instruction does.
-#[derive(Clone, Copy, Debug, PartialEq, Eq)]
+#[derive(Clone, Copy)]
 pub enum InstructionKind {
     Other,
     LoadLocal,
@@ -44,7 +44,7 @@ pub enum InstructionKind {
 }
 
 // What a mention is.
-#[derive(Clone, Copy, Debug, PartialEq, Eq)]
+#[derive(Clone, Copy)]
 pub enum MentionForm {
     Place,
     Spread,
@@ -52,7 +52,7 @@ pub enum MentionForm {
 }
 
 // What a mention does to its value.
-#[derive(Clone, Copy, Debug, PartialEq, Eq)]
+#[derive(Clone, Copy)]
 pub enum Effect {
     Unknown,
     Freeze,
@@ -65,7 +65,7 @@ pub enum Effect {
 }
 
 // A number that is no instruction's code.
-#[derive(Clone, Copy, Debug, PartialEq, Eq)]
+#[derive(Clone, Copy, Debug)]
 pub struct UnknownKind(pub u16);
 
 impl From<InstructionKind> for u16 {

@@ -6,7 +6,7 @@ ghost use Rattle.assemble.specs.Tables.{IsNamed, mark_of, width_of, word_of};
 use std::fmt;
 use std::str::FromStr;
 
-#[derive(Clone, Copy, Debug, PartialEq, Eq)]
+#[derive(Clone, Copy, Debug)]
 pub enum Table {
     Names,
     Values,
@@ -69,7 +69,7 @@ impl Table {
 }
 
 // A word that no record is called by.
-#[derive(Clone, Copy, Debug, PartialEq, Eq)]
+#[derive(Clone, Copy, Debug)]
 pub struct UnknownRecord;
 
 // The table whose records are called so.
