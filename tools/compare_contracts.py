@@ -4,8 +4,10 @@
     python3 tools/compare_contracts.py COMMIT
 
 Prints Markdown: for each crate the public functions whose header or clauses differ, those that are
-gone and those that are new, with the clauses of each; then the same for structs, enums and traits, and
-for definitions in specs/ by their text. Functions are told apart by crate, impl and name.
+gone and those that are new, with the clauses of each; then the ghost members of impls and traits, the
+structs, enums, traits, constants and aliases, and the definitions and theorems in specs/ by their text.
+Functions are told apart by crate, impl and name. `pub` is read as it stands, also in a module that is
+private to its crate.
 """
 import re
 import subprocess
@@ -50,6 +52,18 @@ def items(text):
         i += 1
 
 
+def ghosts(commit):
+    """Ghost members of traits and impls, an invariant of a Model among them."""
+    found = {}
+    for name, text in read(commit, r"/src/.*\.rt$"):
+        crate = name.split("/")[1]
+        for owner, body in re.findall(r"^((?:pub )?(?:impl|trait)\b[^\n]*) \{\n(.*?)^\}", text, re.M | re.S):
+            short = re.sub(r"^(?:pub )?(?:impl(?:<.*?>)? |trait )", "", owner)
+            for member in re.findall(r"^    ghost (?!use)\w+[: ][^\n]*;$|^    ghost (?!use)\w+ = [^;]*\n.*?^    \} \};$", body, re.M | re.S):
+                found[crate, short, member.split()[1].rstrip(":")] = squeeze(member)
+    return found
+
+
 def functions(commit):
     found = {}
     for name, text in read(commit, r"/src/.*\.rt$"):
@@ -73,6 +87,8 @@ def types(commit):
             if "trait " in code:
                 code = re.sub(r"fn .*", "", code, flags=re.S)
             found[crate, "", kind] = squeeze(code)
+        for alias in re.findall(r"^pub (?:const|type) .*?;", text, re.M | re.S):
+            found[crate, "", alias.split()[2].rstrip(":")] = squeeze(alias)
     return found
 
 
@@ -105,7 +121,8 @@ def compare(title, old, new):
 def main():
     old = sys.argv[1]
     compare("Public functions and their clauses", functions(old), functions(None))
-    compare("Public types", types(old), types(None))
+    compare("Ghost members of traits and impls, invariants among them", ghosts(old), ghosts(None))
+    compare("Public types and constants", types(old), types(None))
     compare("Definitions and theorems in specs/", definitions(old), definitions(None))
 
 

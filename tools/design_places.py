@@ -20,7 +20,7 @@ PATTERNS = {
         "a flag in a struct": r"^\s*(?:pub )?\w+: bool,|^\s*pub (?:returns|spanned): u16,",
         "a number for a kind: constant": r"^const \w+: u16 = \d+;",
         "a number for a kind: arm of a match": r"^\s*[\d| ]+ => ",
-        "a number for a kind: compared": r"(?:kind|form)\w*(?:\(.*\))? == (?:\d+|[A-Z_]+)\b",
+        "a number for a kind: compared": r"(?:kind|form)\w*(?:\(.*\))? == (?:\d+|[A-Z_]+\b|\w+::\w+ as)",
         "an Option that is an error": r"Option<Problem",
         "0 for nothing there": r"entry == 0|\(n \+ 1\) as u16",
     },
