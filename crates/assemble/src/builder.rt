@@ -130,7 +130,7 @@ impl PanelBuilder {
         self.names.add(&Record::Name(NameRecord { start, length }))
     }
 
-    // A line to a table, as the header has them. A loop over an array of eight references
+    // A line to a table, as the header has them, here and in `put_tables`. A loop over an array of eight references
     // is no plainer: the array would be those eight lines.
     fn put_header(&self, out: &mut Vec<u8>, text: u16) -> Result<(), AllocError>
         ensures { OnOk result (out.new.items ≡ header_after out.old.items self.now text) }

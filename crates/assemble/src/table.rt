@@ -51,7 +51,8 @@ impl Table {
         }
     }
 
-    // What one of its records is called.
+    // What one of its records is called. A function beside `Display`, which prints it: it
+    // was there for callers that want the word alone.
     pub fn word(self) -> &'static str
         ensures { result.now ≡ word_of self }
     {

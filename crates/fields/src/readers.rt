@@ -18,7 +18,8 @@ pub trait PackedRecord: Sized {
         ensures { result ≡ of part.now };
 }
 
-// A value's form, with its name where the form has one.
+// A value's form, with its name where the form has one. By the code itself, here and
+// below: by an enum of forms a match over its cases would stay.
 fn read_name(part: &[u8]) -> IdentifierName
     ensures value { result ≡ name_of (le16 part.now 2) (le16 part.now 4) }
     ensures coded { le16 part.now 2 < 3 → number (name_code result) ≡ le16 part.now 2 }

@@ -13,7 +13,8 @@ use component::records::{Mention, Sizes};
 use rules::firsts::{first_failing, note_failing};
 use rules::records::{Places, mention_fits, places_after};
 
-// As many mentions as there can be, and one.
+// As many mentions as there can be, and one. The caller lends an array of them, since
+// admission uses local memory alone.
 pub const BEFORE_MENTIONS: usize = 32769;
 
 fn fits(sizes: Sizes, mention: Option<Mention>) -> bool

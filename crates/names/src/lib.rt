@@ -30,7 +30,8 @@ fn mix(hash: u32, byte: Option<u8>) -> u32
     byte.map_or(hash, |byte| (hash ^ byte as u32).wrapping_mul(HASH_PRIME))
 }
 
-// The length of name `n`.
+// The length of name `n`. `component` and `n` stay two parameters, here and below: a
+// `Name` is made of them, and this comes before it.
 fn length_of<C: Component>(component: &C, n: usize) -> usize
     ensures { result ≡ length (name_at (C.Component.meaning component.now).names n) }
 {

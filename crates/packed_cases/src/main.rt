@@ -42,6 +42,7 @@ impl Cases {
             return self.take_source(rt.alloc(), source, line);
         }
         let (command, rest) = line.split_once(' ').unwrap_or((line, ""));
+        // A match: it says which words each takes; a table of closures would hide that.
         match command {
             "source" => self.source = Some(String::new(rt.alloc())),
             "case" => self.start_case(rt.alloc(), rest)?,

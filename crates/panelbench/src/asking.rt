@@ -77,7 +77,7 @@ fn of_mention(mention: Mention) -> u64 {
 }
 
 // The sum of what the answers to a question about each number below `size` come
-// to. A fold, since `filter_map` takes half as long again.
+// to. A fold, since `filter_map` takes a third as long again.
 fn ask<C: Component, R, Q: Fn(&C, usize) -> Option<R>, D: Fn(R) -> u64>(
     component: &C,
     size: usize,

@@ -159,6 +159,7 @@ fn read_statement<'a>(
     keyword: &'a str,
     words: &mut Words<'a>,
 ) -> Result<Statement<'a>, Problem<'a>> {
+    // A match: it says which words each takes; a table of closures would hide that.
     match keyword {
         "panel" => Ok(Statement::Panel(words.code("a kind of panel", &PANELS)?)),
         "name" => Ok(Statement::Name(words.expect("a word")?)),
@@ -205,6 +206,7 @@ fn read_name<'a>(words: &mut Words<'a>) -> Result<NameRecord, Problem<'a>> {
 
 fn read_value<'a>(words: &mut Words<'a>) -> Result<ValueRecord, Problem<'a>> {
     let form = words.code("a form", &FORMS)?;
+    // Compared as a number, since a source may give any for a form.
     let name = if form == NameForm::Unnamed as u16 {
         0
     } else {
@@ -297,6 +299,7 @@ fn read_instruction<'a>(words: &mut Words<'a>) -> Result<InstructionRecord, Prob
 
 fn read_mention<'a>(words: &mut Words<'a>) -> Result<MentionRecord, Problem<'a>> {
     let form = words.code("a form of mention", &MENTION_FORMS)?;
+    // Compared as a number, since a source may give any for a form.
     if form == MentionForm::Hole as u16 {
         return Ok(MentionRecord {
             value: 0,

@@ -8,7 +8,8 @@ ghost use Rattle.renumbered.specs.Numbering.{number_in, Undoes};
 pub const TABLE_SIZE: usize = 2048;
 
 // `numbers` has the number that each inner value has now, and `origins` the
-// inner value that has each number: two tables, so that both are found at once.
+// inner value that has each number: two tables, so that both are found at once, and
+// arrays, since the layer uses no heap.
 #[derive(Clone, Copy)]
 pub struct Numbers {
     numbers: [u16; TABLE_SIZE],
