@@ -1,6 +1,7 @@
 -- What is wrong with a file's length, with a mark, or with the codes of a record.
 use Rattle.std.specs.Prelude.{ℕ, ◌+◌, min, cond, ◌&&◌, List, length, Some, None, Option, ◌==◌, nat_le, nat_lt, slice_index}
 use Rattle.std.specs.Option.{option_or}
+use Rattle.component.specs.Refusals.{fault_unless}
 use Rattle.component.specs.declared.fault.Fault.{Fault}
 use Rattle.component.specs.declared.fault.Reason.TheVariants.{FileLength, RecordMark, FieldCode}
 use Rattle.fields.specs.Fields.{le16}
@@ -14,20 +15,20 @@ use Rattle.layout.specs.Layout.{end_of}
 abbrev pub length_fault : List ℕ → Option Fault
 length_fault bs =
     cond (nat_lt (length bs) 22) (Some (record { reason = FileLength; place = length bs }))
-    (cond (length bs == end_of bs) None (Some (record { reason = FileLength; place = min (length bs) (end_of bs) })))
+    (fault_unless (length bs == end_of bs) FileLength (min (length bs) (end_of bs)))
 
 abbrev pub mark_fault : List ℕ → ℕ → Mark → Option Fault
 mark_fault bs at m =
-    cond (slice_index bs at == m.first && slice_index bs (at + 1) == m.second) None (Some (record { reason = RecordMark; place = at }))
+    fault_unless (slice_index bs at == m.first && slice_index bs (at + 1) == m.second) RecordMark at
 
 -- a code field at `at` whose codes are those below `limit`
 abbrev pub code_fault : List ℕ → ℕ → ℕ → Option Fault
-code_fault bs at limit = cond (nat_lt (le16 bs at) limit) None (Some (record { reason = FieldCode; place = at }))
+code_fault bs at limit = fault_unless (nat_lt (le16 bs at) limit) FieldCode at
 
 -- a name ends within the text's `n` bytes
 abbrev pub name_fault : List ℕ → ℕ → ℕ → Option Fault
 name_fault bs n at =
-    cond (nat_le (le16 bs (at + 2) + le16 bs (at + 4)) n) None (Some (record { reason = FieldCode; place = at + 2 }))
+    fault_unless (nat_le (le16 bs (at + 2) + le16 bs (at + 4)) n) FieldCode (at + 2)
 
 -- form, type
 abbrev pub value_fault : List ℕ → ℕ → Option Fault

@@ -1,9 +1,10 @@
 -- What a renumbering layer means, and why it refuses an exchange.
-use Rattle.std.specs.Prelude.{ℕ, cond, ◌&&◌, List, map, length, Some, None, Option, nat_lt, slice_index_or}
+use Rattle.std.specs.Prelude.{ℕ, ◌&&◌, List, map, length, Option, nat_lt, slice_index_or}
 use Rattle.std.specs.List.{range_with_len}
 use Rattle.std.specs.Option.{option_or}
 use Rattle.component.specs.Meaning.{Meaning}
 use Rattle.component.specs.Exchange.{renumber}
+use Rattle.component.specs.Refusals.{fault_unless}
 use Rattle.component.specs.declared.fault.Fault.{Fault}
 use Rattle.component.specs.declared.fault.Reason.TheVariants.{RecordNumber}
 use Rattle.component.specs.declared.records.Value.{Value}
@@ -30,7 +31,7 @@ layered t m = renumber (number_in t.numbers) (reordered t.origins m.values) m
 
 -- a is 2,048 or more, or not the number of one of n values
 abbrev pub number_fault : ℕ → ℕ → Option Fault
-number_fault n a = cond (nat_lt a 2048 && nat_lt a n) None (Some (record { reason = RecordNumber; place = a }))
+number_fault n a = fault_unless (nat_lt a 2048 && nat_lt a n) RecordNumber a
 
 -- why a and b are not exchanged
 abbrev pub exchange_fault : ℕ → ℕ → ℕ → Option Fault
