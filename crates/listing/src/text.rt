@@ -19,9 +19,35 @@ impl Text {
         }
     }
 
+    // Whatever can be displayed. A text, a character or a number has a function of its
+    // own below, which takes less time.
     pub fn push(&mut self, piece: impl fmt::Display + Drop) {
         if self.result.is_ok() {
             self.result = write!(self.written, "{piece}");
+        }
+    }
+
+    pub fn push_str(&mut self, text: &str) {
+        if self.result.is_ok() {
+            self.result = self.written.push_str(text);
+        }
+    }
+
+    pub fn push_char(&mut self, c: char) {
+        if self.result.is_ok() {
+            self.result = self.written.push(c);
+        }
+    }
+
+    pub fn push_number(&mut self, n: u64) {
+        if self.result.is_ok() {
+            self.result = write!(self.written, "{n}");
+        }
+    }
+
+    pub fn push_hex(&mut self, byte: u8) {
+        if self.result.is_ok() {
+            self.result = write!(self.written, "{byte:02x}");
         }
     }
 
