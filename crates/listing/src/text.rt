@@ -1,4 +1,6 @@
 // Text that is written piece by piece.
+ghost use Rattle.std.specs.Prelude.{◌≡◌, ◌++◌, if◌then◌else◌, is_ok, IsOk, encode_utf8, string_bytes};
+
 use std::alloc::{AllocError, Global};
 use std::fmt;
 
@@ -27,13 +29,19 @@ impl Text {
         }
     }
 
-    pub fn push_str(&mut self, text: &str) {
+    pub fn push_str(&mut self, text: &str)
+        ensures bytes { string_bytes self.new.written ≡ (if is_ok self.new.result then string_bytes self.old.written ++ text.now else string_bytes self.old.written) }
+        ensures short { IsOk self.new.result → IsOk self.old.result }
+    {
         if self.result.is_ok() {
             self.result = self.written.push_str(text);
         }
     }
 
-    pub fn push_char(&mut self, c: char) {
+    pub fn push_char(&mut self, c: char)
+        ensures bytes { string_bytes self.new.written ≡ (if is_ok self.new.result then string_bytes self.old.written ++ encode_utf8 c else string_bytes self.old.written) }
+        ensures short { IsOk self.new.result → IsOk self.old.result }
+    {
         if self.result.is_ok() {
             self.result = self.written.push(c);
         }
