@@ -22,7 +22,7 @@ impl fmt::Display for ReactFunctionType {
     ghost output = { λ k. Some (kind_word k) };
 
     fn fmt<W: fmt::Write>(&self, f: &mut fmt::Formatter<W>) -> fmt::Result {
-        f.write_str(self.word())
+        f.write_str(ReactFunctionType::word(*self))
     }
 }
 
@@ -44,7 +44,7 @@ impl fmt::Display for ValueType {
     ghost output = { λ t. Some (type_word t) };
 
     fn fmt<W: fmt::Write>(&self, f: &mut fmt::Formatter<W>) -> fmt::Result {
-        f.write_str(self.word())
+        f.write_str(ValueType::word(*self))
     }
 }
 
@@ -69,6 +69,6 @@ impl fmt::Display for Effect {
     ghost output = { λ e. Some (effect_word e) };
 
     fn fmt<W: fmt::Write>(&self, f: &mut fmt::Formatter<W>) -> fmt::Result {
-        f.write_str(self.word())
+        f.write_str(Effect::word(*self))
     }
 }

@@ -82,7 +82,7 @@ impl<'a, C: Component> Listing<'a, C> {
         }
     }
 
-    // Adds the line that comes next, as the function of that name does.
+    // Adds the line that comes next: `push_next` over this listing's own cursor and text.
     pub fn push_next(&mut self) -> bool
         ensures component { self.new.component.now ≡ self.old.component.now }
         ensures value { result ≡ is_some (line_at self.old.cursor) }
@@ -96,7 +96,7 @@ impl<'a, C: Component> Listing<'a, C> {
 }
 
 impl<'a, C: Component> Page<'a, C> {
-    // The line of a record, and the turns of the lists behind it.
+    // The line of a record, with the turns of the lists behind it, or a heading.
     fn push_line(&mut self, line: Line, cursor: &mut Cursor)
         ensures entered { ListsEntered (C.Component.meaning self.old.component.now) line cursor.old cursor.new }
         ensures kept { NoRecord cursor.old cursor.new }

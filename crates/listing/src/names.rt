@@ -61,7 +61,10 @@ impl<'a, C: Component> Page<'a, C> {
         for b in bytes {
             match *b {
                 b' '..=b'[' | b']'..=b'~' => self.text.push_char(char::from(*b)),
-                other => self.push(format_args!("\\x{other:02x}")),
+                other => {
+                    self.push_str("\\x");
+                    self.text.push_hex(other);
+                }
             }
         }
     }

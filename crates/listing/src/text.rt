@@ -21,8 +21,8 @@ impl Text {
         }
     }
 
-    // Whatever can be displayed. A text, a character or a number has a function of its
-    // own below, which takes less time.
+    // Whatever can be displayed. For a text, a character or a number that is pushed often
+    // there is a function below, which takes less time.
     pub fn push(&mut self, piece: impl fmt::Display + Drop) {
         if self.result.is_ok() {
             self.result = write!(self.written, "{piece}");
