@@ -1,6 +1,6 @@
 -- Names in a table of 4,096 slots: each stands at the first slot from its hash on
 -- that was free.
-use Rattle.std.specs.Prelude.{◌≡◌, ℕ, ◌+◌, ◌%◌, ◌<◌, ◌≤◌, ◌==◌, ◌≢◌, ◌&&◌, Bool, true, List, length, map, count_by, Some, None, Option, find, is_some, is_none, slice_index, slice_index_or, slice_set, if◌then◌else◌}
+use Rattle.std.specs.Prelude.{◌≡◌, ℕ, ◌+◌, ◌%◌, ◌<◌, ◌≤◌, ◌==◌, ◌≢◌, ◌&&◌, Bool, true, List, [], ◌∷◌, length, map, count_by, Some, None, Option, find, is_some, is_none, slice_index_or, slice_set, if◌then◌else◌}
 use Rattle.std.specs.List.{range_with_len}
 use Rattle.rules.specs.Rules.{alike, name_at}
 use Rattle.names.specs.declared.Entry.{Entry}
@@ -20,28 +20,21 @@ slot h d = (h + d) % 4096
 abbrev pub entry_of : NumberedName → Entry
 entry_of x = record { name = x.number; hash = hashed (bytes_of x) }
 
--- How the table is kept: numbers of names in the slots, and hashes by those numbers.
+-- How the slots are kept: optional numbers of names, and hashes beside them.
 
--- the entry of a number that a slot has, with its hash among hs
-abbrev pub entry_with : List ℕ → Option ℕ → Option Entry
-entry_with hs None = None
-entry_with hs (Some k) = Some (record { name = k; hash = slice_index hs k })
+abbrev pub entry_with : Option ℕ → ℕ → Option Entry
+entry_with None h = None
+entry_with (Some k) h = Some (record { name = k; hash = h })
 
 abbrev pub entries : List (Option ℕ) → List ℕ → Slots
-entries ks hs = map (entry_with hs) ks
-
--- each number in the slots is below 2,048, so that it has a hash
-abbrev pub Numbered : List (Option ℕ) → Type 0
-Numbered ks = (s k : ℕ) → slice_index_or ks s None ≡ Some k → k < 2048
+entries [] hs = []
+entries (k ∷ ks) [] = []
+entries (k ∷ ks) (h ∷ hs) = entry_with k h ∷ entries ks hs
 
 -- What the table means.
 
 abbrev pub used : Slots → ℕ
 used t = count_by is_some t
-
--- no slot holds name n
-abbrev pub Lacks : Slots → ℕ → Type 0
-Lacks t n = (s : ℕ) (e : Entry) → at t s ≡ Some e → e.name ≢ n
 
 -- name k can be found from its hash on
 abbrev pub Home : List (List ℕ) → Slots → ℕ → Type 0

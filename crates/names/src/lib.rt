@@ -9,11 +9,10 @@ ghost use Rattle.std.specs.Option.{option_eq};
 ghost use Rattle.rules.specs.Rules.{name_at, length_fits, alike};
 ghost use Rattle.rules.specs.Admission.{name_breach};
 ghost use Rattle.names.specs.Names.{NumberedName, bytes_of, mixed_in, hashed};
-ghost use Rattle.names.specs.Slots.{Slots, Lacks, Numbered, at, entries, entry_of, slot, matches, ends_search, last_slot, free_slot, with_name};
+ghost use Rattle.names.specs.Slots.{Slots, at, entries, entry_of, slot, matches, ends_search, last_slot, free_slot, with_name};
 ghost use Rattle.names.specs.Laws.{EmptyTable, SlotIsFree, NoSlotHasTwin, NameAdded, NameNotAdded};
 
 use component::Component;
-use rules::records::MAX_NAMES;
 use std::marker::Model;
 
 const SLOTS: usize = 4096;
@@ -103,8 +102,7 @@ impl<'a, C: Component> Name<'a, C> {
 
     // The name as an entry of a table.
     fn entry(&self) -> Entry
-        ensures entry { result ≡ entry_of self.now }
-        ensures few { result.name < 2048 }
+        ensures { result ≡ entry_of self.now }
     {
         Entry {
             name: self.n as u16,
@@ -168,20 +166,18 @@ impl<'a, C: Component> Name<'a, C> {
 }
 
 // Names of a component in slots: each stands at the first slot from its hash on
-// that was free. Arrays and no map of the library, since admission uses no heap; the
-// hashes stand by the names' numbers, since in the slots they would take twice the room.
+// that was free. Arrays and no map of the library, since admission uses no heap; two of
+// them, since one of optional entries would be half as large again, and slower to clear.
 #[derive(Drop)]
 struct NameTable {
     slots: [Option<u16>; SLOTS],
-    hashes: [u32; MAX_NAMES],
+    hashes: [u32; SLOTS],
 }
 
 impl Model for NameTable {
     ghost Value = { Slots };
 
     ghost view = { λ t. entries t.slots t.hashes };
-
-    ghost invariant = { λ t. Numbered t.slots };
 }
 
 impl NameTable {
@@ -190,11 +186,12 @@ impl NameTable {
     {
         NameTable {
             slots: [None; SLOTS],
-            hashes: [0; MAX_NAMES],
+            hashes: [0; SLOTS],
         }
     }
 
     // What slot `s` holds.
+    #[tactic(auto, using(crate::proofs::Entries::free_at, crate::proofs::Entries::entry_at))]
     fn at(&self, s: usize) -> Option<Entry>
         requires { s < 4096 }
         ensures { result ≡ at self.now s }
@@ -202,20 +199,18 @@ impl NameTable {
         let name = self.slots[s]?;
         Some(Entry {
             name,
-            hash: self.hashes[name as usize],
+            hash: self.hashes[s],
         })
     }
 
-    // Writes a name that no slot holds.
-    #[tactic(auto, using(crate::proofs::Entries::entries_written))]
+    // Writes an entry into slot `s`.
+    #[tactic(auto, using(crate::proofs::Entries::entry_written))]
     fn write(&mut self, s: usize, entry: Entry)
-        requires inside { s < 4096 }
-        requires few { entry.name < 2048 }
-        requires new { Lacks self.old entry.name }
+        requires { s < 4096 }
         ensures { self.new ≡ slice_set self.old s (Some entry) }
     {
         self.slots[s] = Some(entry.name);
-        self.hashes[entry.name as usize] = entry.hash;
+        self.hashes[s] = entry.hash;
     }
 
     // The slot at which the search for a name ends.
@@ -239,9 +234,8 @@ impl NameTable {
         self.at(s).is_none().then_some(s)
     }
 
-    // Adds the name, which no slot holds yet, if none like it is in the table.
+    // Adds the name, if none like it is in the table.
     fn insert<C: Component>(&mut self, name: &Name<C>) -> bool
-        requires { Lacks self.old name.now.number }
         ensures new { result ≡ is_some (free_slot self.old name.now) }
         ensures slots { self.new ≡ with_name self.old name.now }
     {
