@@ -40,6 +40,13 @@ impl From<Reason> for u8 {
 }
 
 impl Reason {
+    // The number under which programs print it.
+    pub fn number(self) -> u8
+        ensures { result ≡ number_of self }
+    {
+        u8::from(self)
+    }
+
     // Refuses at a place, unless `holds`.
     pub fn unless(self, holds: bool, place: usize) -> Result<(), Fault>
         ensures { result_err result ≡ fault_unless holds self place }

@@ -58,3 +58,10 @@ pub trait Component {
     fn mention(&self, n: usize) -> Option<Mention>
         ensures { result ≡ slice_get (meaning self.now).mentions n };
 }
+
+// Entry `n` of a slice.
+pub fn pick<T: Copy>(entries: &[T], n: usize) -> Option<T>
+    ensures { result ≡ slice_get entries.now n }
+{
+    entries.get(n).copied()
+}

@@ -18,7 +18,7 @@ fn shown_count(list: Run) -> usize
 impl<'a, C: Component> Page<'a, C> {
     pub fn push_predecessors(&mut self, list: Run) {
         self.push_list(list, |page, n| match page.component.predecessor(n) {
-            Some(predecessor) => page.push(predecessor.id),
+            Some(predecessor) => page.push_number(usize::from(predecessor.id)),
             None => page.push_unknown(n),
         });
     }
@@ -35,7 +35,7 @@ impl<'a, C: Component> Page<'a, C> {
         let shown = shown_count(list);
         for n in start..start + shown {
             if n > start {
-                self.push(", ");
+                self.push_str(", ");
             }
             push_entry(self, n);
         }
@@ -49,19 +49,21 @@ impl<'a, C: Component> Page<'a, C> {
         match self.component.mention(n) {
             Some(Mention::Place(place)) => self.push_place(place),
             Some(Mention::Spread(place)) => {
-                self.push("...");
+                self.push_str("...");
                 self.push_place(place);
             }
-            Some(Mention::Hole) => self.push("hole"),
+            Some(Mention::Hole) => self.push_str("hole"),
             None => self.push_unknown(n),
         }
     }
 
     fn push_place(&mut self, place: Place) {
         self.push_value(place.value);
-        self.push(format_args!(" {}", place.effect));
+        self.push_str(" ");
+        self.push_str(place.effect.word());
         if let Some(span) = place.span {
-            self.push(format_args!(" {}..{}", span.start, span.end));
+            self.push_str(" ");
+            self.push_bounds(span.start, span.end);
         }
     }
 }

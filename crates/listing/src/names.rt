@@ -13,7 +13,7 @@ impl<'a, C: Component> Page<'a, C> {
     pub fn push_value(&mut self, n: u16) {
         match self.component.value(usize::from(n)) {
             Some(value) => {
-                self.push(n);
+                self.push_number(usize::from(n));
                 self.push_identifier(value.name);
             }
             None => self.push_unknown(usize::from(n)),
@@ -24,7 +24,7 @@ impl<'a, C: Component> Page<'a, C> {
         match name {
             IdentifierName::Unnamed => {}
             IdentifierName::Named(n) | IdentifierName::Promoted(n) => {
-                self.push(" ");
+                self.push_str(" ");
                 self.push_name(usize::from(n));
             }
         }
@@ -60,8 +60,11 @@ impl<'a, C: Component> Page<'a, C> {
     fn push_escaped(&mut self, bytes: &[u8]) {
         for b in bytes {
             match *b {
-                b' '..=b'[' | b']'..=b'~' => self.push(char::from(*b)),
-                other => self.push(format_args!("\\x{other:02x}")),
+                b' '..=b'[' | b']'..=b'~' => self.text.push_char(char::from(*b)),
+                other => {
+                    self.push_str("\\x");
+                    self.text.push_hex(other);
+                }
             }
         }
     }

@@ -1,4 +1,6 @@
 // A component and the text that its lines are written to.
+ghost use Rattle.std.specs.Prelude.{◌≡◌};
+
 use crate::text::Text;
 use component::Component;
 use std::fmt;
@@ -10,7 +12,9 @@ pub struct Page<'a, C: Component> {
 }
 
 impl<'a, C: Component> Page<'a, C> {
-    pub fn new(component: &'a C, text: &'a mut Text) -> Page<'a, C> {
+    pub fn new(component: &'a C, text: &'a mut Text) -> Page<'a, C>
+        ensures { result.component.now ≡ component.now }
+    {
         Page { component, text }
     }
 
@@ -18,8 +22,24 @@ impl<'a, C: Component> Page<'a, C> {
         self.text.push(piece);
     }
 
+    pub fn push_str(&mut self, text: &str) {
+        self.text.push_str(text);
+    }
+
+    pub fn push_number(&mut self, n: usize) {
+        self.text.push_number(n as u64);
+    }
+
+    // A range, of orders or of a source text.
+    pub fn push_bounds(&mut self, start: u32, end: u32) {
+        self.text.push_number(u64::from(start));
+        self.push_str("..");
+        self.text.push_number(u64::from(end));
+    }
+
     // A number that its table has no record for.
     pub fn push_unknown(&mut self, n: usize) {
-        self.push(format_args!("?{n}"));
+        self.push_str("?");
+        self.push_number(n);
     }
 }

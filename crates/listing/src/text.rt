@@ -1,4 +1,6 @@
 // Text that is written piece by piece.
+ghost use Rattle.std.specs.Prelude.{◌≡◌, ◌++◌, if◌then◌else◌, is_ok, IsOk, encode_utf8, string_bytes};
+
 use std::alloc::{AllocError, Global};
 use std::fmt;
 
@@ -19,9 +21,41 @@ impl Text {
         }
     }
 
+    // Whatever can be displayed. For a text, a character or a number that is pushed often
+    // there is a function below, which takes less time.
     pub fn push(&mut self, piece: impl fmt::Display + Drop) {
         if self.result.is_ok() {
             self.result = write!(self.written, "{piece}");
+        }
+    }
+
+    pub fn push_str(&mut self, text: &str)
+        ensures bytes { string_bytes self.new.written ≡ (if is_ok self.new.result then string_bytes self.old.written ++ text.now else string_bytes self.old.written) }
+        ensures short { IsOk self.new.result → IsOk self.old.result }
+    {
+        if self.result.is_ok() {
+            self.result = self.written.push_str(text);
+        }
+    }
+
+    pub fn push_char(&mut self, c: char)
+        ensures bytes { string_bytes self.new.written ≡ (if is_ok self.new.result then string_bytes self.old.written ++ encode_utf8 c else string_bytes self.old.written) }
+        ensures short { IsOk self.new.result → IsOk self.old.result }
+    {
+        if self.result.is_ok() {
+            self.result = self.written.push(c);
+        }
+    }
+
+    pub fn push_number(&mut self, n: u64) {
+        if self.result.is_ok() {
+            self.result = write!(self.written, "{n}");
+        }
+    }
+
+    pub fn push_hex(&mut self, byte: u8) {
+        if self.result.is_ok() {
+            self.result = write!(self.written, "{byte:02x}");
         }
     }
 

@@ -1,9 +1,10 @@
 -- The bytes of a name, asked one by one.
-use Rattle.std.proofs.Common.{◌≡◌, ℕ, zero, suc, ◌+◌, ◌≢◌, Bool, false, ◌&&◌, eqb, List, [], ◌∷◌, map, length, fold, refl, ap, ◌∙◌, arith}
+use Rattle.std.proofs.Common.{◌≡◌, ℕ, zero, suc, Some, None, sym, ◌+◌, ◌≢◌, Bool, false, ◌&&◌, eqb, List, [], ◌∷◌, map, length, fold, refl, ap, ◌∙◌, arith}
 use Rattle.std.specs.List.{slice_get, list_all, range_with_len}
 use Rattle.std.specs.Option.{unwrap_or, option_eq}
 use Rattle.std.proofs.lemmas.List.Folds.{fold-map, list_all-map}
 use Rattle.std.proofs.lemmas.Bool.{and_right}
+use Rattle.std.proofs.Math.Dec.{eqb-suc-zero}
 use Rattle.rules.specs.Rules.{alike, name_at}
 use Rattle.names.specs.Names.{mixed, mixed_in, hashed}
 
@@ -42,3 +43,18 @@ alike_lengths [] [] e = absurd (e refl)
 alike_lengths [] (y ∷ ys) e = refl
 alike_lengths (x ∷ xs) [] e = refl
 alike_lengths (x ∷ xs) (y ∷ ys) e = and_right (eqb x y) (alike xs ys) (alike_lengths xs ys (λ q. e (ap suc q)))
+
+-- a name that has length l
+pub alike_other : (ns : List (List ℕ)) (xs : List ℕ) (n l : ℕ) → slice_get (map length ns) n ≡ Some l → length xs ≢ l → alike xs (name_at ns n) ≡ false
+alike_other ns xs n l q f =
+    alike_lengths xs (name_at ns n) (λ e. f (e ∙ sym (length_asked ns n) ∙ ap (λ o. unwrap_or o 0) q))
+
+alike_empty : (xs ys : List ℕ) → length ys ≡ 0 → alike xs ys ≡ eqb (length xs) 0
+alike_empty [] [] e = refl
+alike_empty (x ∷ xs) [] e = sym (eqb-suc-zero (length xs))
+alike_empty xs (y ∷ ys) e = absurd (omega (arith, e))
+
+-- a number that is no name's
+pub alike_none : (ns : List (List ℕ)) (xs : List ℕ) (n : ℕ) → slice_get (map length ns) n ≡ None → alike xs (name_at ns n) ≡ eqb (length xs) 0
+alike_none ns xs n q =
+    alike_empty xs (name_at ns n) (sym (length_asked ns n) ∙ ap (λ o. unwrap_or o 0) q)

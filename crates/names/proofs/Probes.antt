@@ -41,7 +41,7 @@ taken : (x : Entry) (o : Option Entry) → o ≡ Some x → o ≢ None
 taken x o e q = cc
 
 -- a table with so few names has a free slot
-not_full : (ns : List (List ℕ)) (t : Slots) (i d : ℕ) → Holds ns t i → i ≤ 2048 → 4096 ≤ d → Passed ns t i d → ⊥
+pub not_full : (ns : List (List ℕ)) (t : Slots) (i d : ℕ) → Holds ns t i → i ≤ 2048 → 4096 ≤ d → Passed ns t i d → ⊥
 not_full ns t i d o l e p =
     let all : (s : ℕ) → s < length t → at t s ≢ None =
     λ s m q.
@@ -99,7 +99,7 @@ module _ (ns : List (List ℕ)) (t : Slots) (i s : ℕ) (o : Holds ns t i) (low 
     λ e l. let x = f.3 e l in stays (slot (hash_at ns i) e) (taken x.0 (at t (slot (hash_at ns i) e)) x.1),
   )
 
-  put : Holds ns after (i + 1)
+  pub put : Holds ns after (i + 1)
   put =
       record {
         long = length-set t s new ∙ o.long;
@@ -114,7 +114,7 @@ module _ (ns : List (List ℕ)) (t : Slots) (i s : ℕ) (o : Holds ns t i) (low 
       }
 
   -- no earlier name is like name i
-  other : Twin ns i → ⊥
+  pub other : Twin ns i → ⊥
   other z =
       let k = z.0 in
       let e = z.2 in

@@ -1,6 +1,6 @@
 -- Names in a table of 4,096 slots: each stands at the first slot from its hash on
 -- that was free.
-use Rattle.std.specs.Prelude.{◌≡◌, ℕ, ◌+◌, ◌%◌, ◌<◌, ◌≤◌, ◌==◌, ◌≢◌, ◌&&◌, Bool, true, List, length, map, count_by, Some, None, Option, find, is_some, is_none, slice_index_or, slice_set, if◌then◌else◌}
+use Rattle.std.specs.Prelude.{◌≡◌, ℕ, ◌+◌, ◌%◌, ◌<◌, ◌≤◌, ◌==◌, ◌≢◌, ◌&&◌, Bool, true, List, [], ◌∷◌, length, map, count_by, Some, None, Option, find, is_some, is_none, slice_index_or, slice_set, if◌then◌else◌}
 use Rattle.std.specs.List.{range_with_len}
 use Rattle.rules.specs.Rules.{alike, name_at}
 use Rattle.names.specs.declared.Entry.{Entry}
@@ -19,6 +19,17 @@ slot h d = (h + d) % 4096
 
 abbrev pub entry_of : NumberedName → Entry
 entry_of x = record { name = x.number; hash = hashed (bytes_of x) }
+
+-- How the slots are kept: optional numbers of names, and hashes beside them.
+
+abbrev pub entry_with : Option ℕ → ℕ → Option Entry
+entry_with None h = None
+entry_with (Some k) h = Some (record { name = k; hash = h })
+
+abbrev pub entries : List (Option ℕ) → List ℕ → Slots
+entries [] hs = []
+entries (k ∷ ks) [] = []
+entries (k ∷ ks) (h ∷ hs) = entry_with k h ∷ entries ks hs
 
 -- What the table means.
 

@@ -3,13 +3,13 @@
 // equal hashes are compared byte by byte.
 #![tactic(auto)]
 
-ghost use Rattle.std.specs.Prelude.{◌≡◌, ℕ, ◌<◌, ◌≤◌, nat_eq, length, Some, None, IfSome, is_some, replicate};
+ghost use Rattle.std.specs.Prelude.{◌≡◌, ℕ, ◌<◌, ◌≤◌, nat_eq, length, Some, None, IfSome, is_some, replicate, slice_set};
 ghost use Rattle.std.specs.List.{slice_get};
 ghost use Rattle.std.specs.Option.{option_eq};
 ghost use Rattle.rules.specs.Rules.{name_at, length_fits, alike};
 ghost use Rattle.rules.specs.Admission.{name_breach};
 ghost use Rattle.names.specs.Names.{NumberedName, bytes_of, mixed_in, hashed};
-ghost use Rattle.names.specs.Slots.{at, entry_of, slot, matches, ends_search, last_slot, free_slot, with_name};
+ghost use Rattle.names.specs.Slots.{Slots, at, entries, entry_of, slot, matches, ends_search, last_slot, free_slot, with_name};
 ghost use Rattle.names.specs.Laws.{EmptyTable, SlotIsFree, NoSlotHasTwin, NameAdded, NameNotAdded};
 
 use component::Component;
@@ -126,11 +126,16 @@ impl<'a, C: Component> Name<'a, C> {
     }
 
     // Name `k` is like this one.
-    #[tactic(auto, using(crate::proofs::Bytes::alike_lengths))]
+    #[tactic(auto, using(crate::proofs::Bytes::alike_other, crate::proofs::Bytes::alike_none))]
     fn is_like(&self, k: usize) -> bool
         ensures { result ≡ alike (bytes_of self.now) (name_at self.now.names k) }
     {
-        self.len == length_of(self.component, k) && self.same_bytes(k)
+        // A `match`: where it is known that there is a name `k`, its place is asked for
+        // once, and not again at each byte.
+        match self.component.name_length(k) {
+            Some(len) => self.len == len && self.same_bytes(k),
+            None => self.len == 0,
+        }
     }
 
     // The name of the entry has the same hash, and is like this one.
@@ -160,52 +165,84 @@ impl<'a, C: Component> Name<'a, C> {
     }
 }
 
-// Names of a component in slots: each stands at the first slot from its hash on that
-// was free. An array and no map of the library, since admission uses no heap.
+// Names of a component in slots: each stands at the first slot from its hash on
+// that was free. Arrays and no map of the library, since admission uses no heap; two of
+// them, since one of optional entries would be half as large again, and slower to clear.
 #[derive(Drop)]
 struct NameTable {
-    slots: [Option<Entry>; SLOTS],
+    slots: [Option<u16>; SLOTS],
+    hashes: [u32; SLOTS],
+}
+
+impl Model for NameTable {
+    ghost Value = { Slots };
+
+    ghost view = { λ t. entries t.slots t.hashes };
 }
 
 impl NameTable {
     fn new() -> Self
-        ensures { result.slots ≡ replicate 4096 None }
+        ensures { result ≡ replicate 4096 None }
     {
         NameTable {
             slots: [None; SLOTS],
+            hashes: [0; SLOTS],
         }
+    }
+
+    // What slot `s` holds.
+    #[tactic(auto, using(crate::proofs::Entries::free_at, crate::proofs::Entries::entry_at))]
+    fn at(&self, s: usize) -> Option<Entry>
+        requires { s < 4096 }
+        ensures { result ≡ at self.now s }
+    {
+        let name = self.slots[s]?;
+        Some(Entry {
+            name,
+            hash: self.hashes[s],
+        })
+    }
+
+    // Writes an entry into slot `s`.
+    #[tactic(auto, using(crate::proofs::Entries::entry_written))]
+    fn write(&mut self, s: usize, entry: Entry)
+        requires { s < 4096 }
+        ensures { self.new ≡ slice_set self.old s (Some entry) }
+    {
+        self.slots[s] = Some(entry.name);
+        self.hashes[s] = entry.hash;
     }
 
     // The slot at which the search for a name ends.
     #[tactic(auto, unfolding(crate::specs::Slots::last_slot))]
     fn last_slot<C: Component>(&self, name: &Name<C>) -> Option<usize>
         ensures inside { IfSome result (λ s. s < 4096) }
-        ensures slot { result ≡ last_slot self.now.slots name.now }
+        ensures slot { result ≡ last_slot self.now name.now }
     {
         (0..SLOTS)
             .map(move |d| name.slot(d))
-            .find(move |s| name.ends_search(self.slots[*s]))
+            .find(move |s| name.ends_search(self.at(*s)))
     }
 
     // The slot where the name belongs, or none if a name like it is in the table.
     #[tactic(auto, unfolding(crate::specs::Slots::free_slot))]
     fn free_slot<C: Component>(&self, name: &Name<C>) -> Option<usize>
         ensures inside { IfSome result (λ s. s < 4096) }
-        ensures slot { result ≡ free_slot self.now.slots name.now }
+        ensures slot { result ≡ free_slot self.now name.now }
     {
         let s = self.last_slot(name)?;
-        self.slots[s].is_none().then_some(s)
+        self.at(s).is_none().then_some(s)
     }
 
     // Adds the name, if none like it is in the table.
     fn insert<C: Component>(&mut self, name: &Name<C>) -> bool
-        ensures new { result ≡ is_some (free_slot self.old.slots name.now) }
-        ensures slots { self.new.slots ≡ with_name self.old.slots name.now }
+        ensures new { result ≡ is_some (free_slot self.old name.now) }
+        ensures slots { self.new ≡ with_name self.old name.now }
     {
         let Some(s) = self.free_slot(name) else {
             return false;
         };
-        self.slots[s] = Some(name.entry());
+        self.write(s, name.entry());
         true
     }
 }

@@ -13,7 +13,7 @@ use std::error::Error;
 use std::fmt;
 
 // What is wrong, and the number of the line, from 1.
-#[derive(Clone, Copy, Debug)]
+#[derive(Clone, Copy)]
 pub struct SourceError<'a> {
     pub line: usize,
     pub problem: Problem<'a>,
@@ -24,6 +24,14 @@ impl<'a> fmt::Display for SourceError<'a> {
         let line = self.line;
         let problem = self.problem;
         write!(f, "line {line}: {problem}")
+    }
+}
+
+// Written by hand: it prints the line that `Display` prints, so that a `main` or a test
+// which ends with this error says what is wrong, and where.
+impl<'a> fmt::Debug for SourceError<'a> {
+    fn fmt<W: fmt::Write>(&self, f: &mut fmt::Formatter<W>) -> fmt::Result {
+        fmt::Display::fmt(self, f)
     }
 }
 

@@ -52,7 +52,7 @@ impl<'a> fmt::Display for Problem<'a> {
 }
 
 // A word and the code that it stands for.
-pub(crate) type Code = (&'static str, u16);
+pub type Code = (&'static str, u16);
 
 const LIST: &str = "a list start+count";
 
@@ -60,44 +60,44 @@ const RANGE: &str = "a range start..end";
 
 // The words that are still to be read.
 #[derive(Drop)]
-pub(crate) struct Words<'a> {
+pub struct Words<'a> {
     rest: SplitWhitespace<'a>,
 }
 
 impl<'a> Words<'a> {
     // The words of a line, up to its comment.
-    pub(crate) fn of(line: &'a str) -> Words<'a> {
+    pub fn of(line: &'a str) -> Words<'a> {
         let (code, _) = line.split_once('#').unwrap_or((line, ""));
         Words {
             rest: code.split_whitespace(),
         }
     }
 
-    pub(crate) fn next(&mut self) -> Option<&'a str> {
+    pub fn next(&mut self) -> Option<&'a str> {
         self.rest.next()
     }
 
     // The next word, which stands for `what`.
-    pub(crate) fn expect(&mut self, what: &'static str) -> Result<&'a str, Problem<'a>>
+    pub fn expect(&mut self, what: &'static str) -> Result<&'a str, Problem<'a>>
         ensures { IsOkUnless result (Missing what.entry) }
     {
         self.rest.next().ok_or(Problem::Missing(what))
     }
 
     // The next word has to be this one.
-    pub(crate) fn keyword(&mut self, keyword: &'static str) -> Result<(), Problem<'a>> {
+    pub fn keyword(&mut self, keyword: &'static str) -> Result<(), Problem<'a>> {
         check(keyword, self.expect(keyword)?)
     }
 
     // Nothing may follow a whole statement.
-    pub(crate) fn end(&mut self) -> Result<(), Problem<'a>> {
+    pub fn end(&mut self) -> Result<(), Problem<'a>> {
         self.rest
             .next()
             .map_or(Ok(()), |word| Err(Problem::Leftover(word)))
     }
 
     // The next word as a number.
-    pub(crate) fn number<N: FromStr>(&mut self, what: &'static str) -> Result<N, Problem<'a>>
+    pub fn number<N: FromStr>(&mut self, what: &'static str) -> Result<N, Problem<'a>>
     where
         N::Err: Drop,
         ensures { IfErr result (λ p. (p ≡ Missing what.entry) ⊎ ((word : _) × (p ≡ Unfit what.entry word))) }
@@ -107,7 +107,7 @@ impl<'a> Words<'a> {
     }
 
     // The code of a word of `codes`, or any code as a plain number.
-    pub(crate) fn code(&mut self, what: &'static str, codes: &[Code]) -> Result<u16, Problem<'a>> {
+    pub fn code(&mut self, what: &'static str, codes: &[Code]) -> Result<u16, Problem<'a>> {
         let word = self.expect(what)?;
         match codes.iter().find(|(name, _)| *name == word) {
             Some((_, code)) => Ok(*code),
@@ -116,7 +116,7 @@ impl<'a> Words<'a> {
     }
 
     // A list behind its keyword, as `args 3+2`.
-    pub(crate) fn run(&mut self, keyword: &'static str) -> Result<Run, Problem<'a>> {
+    pub fn run(&mut self, keyword: &'static str) -> Result<Run, Problem<'a>> {
         self.keyword(keyword)?;
         let word = self.expect(LIST)?;
         let (start, count) = halves(word, "+");
@@ -126,12 +126,12 @@ impl<'a> Words<'a> {
         })
     }
 
-    pub(crate) fn range(&mut self) -> Result<Range, Problem<'a>> {
+    pub fn range(&mut self) -> Result<Range, Problem<'a>> {
         range_of(self.expect(RANGE)?)
     }
 
     // All words that are left, each a byte of two hexadecimal digits.
-    pub(crate) fn bytes(&mut self, heap: Global) -> Result<Vec<u8>, Problem<'a>> {
+    pub fn bytes(&mut self, heap: Global) -> Result<Vec<u8>, Problem<'a>> {
         self.rest
             .by_ref()
             .take(TEXT_MAX)
@@ -141,7 +141,7 @@ impl<'a> Words<'a> {
 }
 
 // The word has to be the keyword. An `if`: by `then_some` and `ok_or` it is no plainer.
-pub(crate) fn check<'a>(keyword: &'static str, word: &'a str) -> Result<(), Problem<'a>>
+pub fn check<'a>(keyword: &'static str, word: &'a str) -> Result<(), Problem<'a>>
     ensures same { IsOk result ↔ (word.now ≡ keyword.now) }
     ensures unfit { IsOkUnless result (Unfit keyword.entry word.entry) }
 {
@@ -153,7 +153,7 @@ pub(crate) fn check<'a>(keyword: &'static str, word: &'a str) -> Result<(), Prob
 }
 
 // What a part of a word says, where `what` should stand.
-pub(crate) fn parse<'a, T: FromStr>(
+pub fn parse<'a, T: FromStr>(
     what: &'static str,
     word: &'a str,
     part: &str,
@@ -167,7 +167,7 @@ where
 }
 
 // The range that a word is, as `5..30`.
-pub(crate) fn range_of<'a>(word: &'a str) -> Result<Range, Problem<'a>> {
+pub fn range_of<'a>(word: &'a str) -> Result<Range, Problem<'a>> {
     let (start, end) = halves(word, "..");
     Ok(Range {
         start: parse(RANGE, word, start)?,

@@ -25,7 +25,7 @@ unfolding name_breach
 returns-then-not-insert g c =
     let ns = (g.C.Component.meaning c.args.component.now).names in
     let n = c.loop-n.n in
-    let t = c.loop-n.table.slots in
+    let t = c.loop-n.table in
     let none = sym (sym c.if-not-insert.true ∙ c.insert.ensures.new ∙ ap (λ x. is_some (free_slot t x)) c.in-Some.ensures.name) in
     let w = not_added ns t n c.loop-n.invariant.0 (omega arith) none in
     sym (first_here (name_stands ns) (length ns) n c.loop-n.invariant.1 (fails_twin ns n w.1) (omega arith))
@@ -34,7 +34,7 @@ pub loop-n-preserved : goal.loop-n-preserved
 loop-n-preserved g c =
     let ns = (g.C.Component.meaning c.args.component.now).names in
     let n = c.loop-n.n in
-    let t = c.loop-n.table.slots in
+    let t = c.loop-n.table in
     let some = sym (sym c.if-not-insert.false ∙ c.insert.ensures.new ∙ ap (λ x. is_some (free_slot t x)) c.in-Some.ensures.name) in
     let w = added ns t n c.loop-n.invariant.0 some in (
       subst (λ (t : Slots). Holds ns t (n + 1)) (sym (c.insert.ensures.slots ∙ ap (with_name t) c.in-Some.ensures.name)) w.0,

@@ -8,4 +8,4 @@ use Rattle.names.proofs.first_failing_name.Given as goal
 abbrev pub invariant-loop-n : goal.invariant-loop-n
 invariant-loop-n g l =
     let ns = (g.C.Component.meaning l.component).names in
-    Holds ns l.table.slots l.n × (first_failing (name_stands ns) l.n ≡ None)
+    Holds ns l.table l.n × (first_failing (name_stands ns) l.n ≡ None)
