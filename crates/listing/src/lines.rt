@@ -57,7 +57,10 @@ impl<'a, C: Component> Page<'a, C> {
     }
 
     pub fn push_phi(&mut self, n: usize, phi: Phi) {
-        self.push(format_args!("    phi {n}: "));
+        // By its pieces: a line of a phi is so short that a format string is felt.
+        self.push_str("    phi ");
+        self.push_number(n);
+        self.push_str(": ");
         self.push_value(phi.value);
         self.push_str(" = phi [");
         self.push_mentions(phi.operands);

@@ -18,7 +18,7 @@ pub struct NameSpan {
 }
 
 // The bytes from `start` on, none where they end before it. By an index: with `get` the
-// bounds were tested again at each byte of a name, and admission took up to 1.8 times as long.
+// bounds were tested again at each byte of a name, and admission took up to 1.7 times as long.
 fn bytes_from(bytes: &[u8], start: usize) -> &[u8]
     ensures { result.now ≡ drop start bytes.now }
 {
