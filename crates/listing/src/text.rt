@@ -1,5 +1,6 @@
 // Text that is written piece by piece.
-ghost use Rattle.std.specs.Prelude.{◌≡◌, ◌++◌, if◌then◌else◌, is_ok, IsOk, encode_utf8, string_bytes};
+ghost use Rattle.std.specs.Prelude.{◌≡◌, ◌+◌, ◌<◌, ◌++◌, length, if◌then◌else◌, is_ok, IsOk, OnErr, encode_utf8, string_bytes, string_len, string_capacity};
+ghost use Rattle.std.specs.Fmt.{decimal};
 
 use std::alloc::{AllocError, Global};
 use std::fmt;
@@ -32,6 +33,7 @@ impl Text {
     pub fn push_str(&mut self, text: &str)
         ensures bytes { string_bytes self.new.written ≡ (if is_ok self.new.result then string_bytes self.old.written ++ text.now else string_bytes self.old.written) }
         ensures short { IsOk self.new.result → IsOk self.old.result }
+        ensures full { IsOk self.old.result → OnErr self.new.result (string_capacity self.old.written < string_len self.old.written + length text.now) }
     {
         if self.result.is_ok() {
             self.result = self.written.push_str(text);
@@ -41,13 +43,17 @@ impl Text {
     pub fn push_char(&mut self, c: char)
         ensures bytes { string_bytes self.new.written ≡ (if is_ok self.new.result then string_bytes self.old.written ++ encode_utf8 c else string_bytes self.old.written) }
         ensures short { IsOk self.new.result → IsOk self.old.result }
+        ensures full { IsOk self.old.result → OnErr self.new.result (string_capacity self.old.written < string_len self.old.written + length (encode_utf8 c)) }
     {
         if self.result.is_ok() {
             self.result = self.written.push(c);
         }
     }
 
-    pub fn push_number(&mut self, n: u64) {
+    pub fn push_number(&mut self, n: u64)
+        ensures digits { IsOk self.new.result → string_bytes self.new.written ≡ string_bytes self.old.written ++ decimal n }
+        ensures short { IsOk self.new.result → IsOk self.old.result }
+    {
         if self.result.is_ok() {
             self.result = write!(self.written, "{n}");
         }
